@@ -1,0 +1,38 @@
+-- What the program prints. Assumes nothing.
+use Prim.Native.Nat.{ℕ, zero, suc, _/_, _%_}
+use Prim.Native.String.{String, _++_}
+use mathlib.Core.Path.{_≡_}
+use mathlib.Core.Bool.{Bool, true, false, cond}
+use mathlib.Core.List.{List, [], _∷_}
+use lib.ListN.{getD, take}
+use lib.Dec.{ltb}
+use Rattle.regions.specs.Checks.{same}
+use Rattle.tables.specs.Bytes.{RN}
+use Rattle.tables.specs.Answer.{Answer, accepted, refused}
+use Rattle.checker.specs.RunFile.{run-answer}
+use Rattle.checker.specs.RegionFile.{ListAnswer}
+
+abbrev pub digit : ℕ → String
+digit d = getD ("0" ∷ "1" ∷ "2" ∷ "3" ∷ "4" ∷ "5" ∷ "6" ∷ "7" ∷ "8" ∷ "9" ∷ []) d "?"
+
+-- a number of at most so many digits, without leading zeros
+abbrev pub decimal-of : ℕ → ℕ → String
+decimal-of zero n = ""
+decimal-of (suc k) n = cond (ltb n 10) (digit n) (decimal-of k (n / 10) ++ digit (n % 10))
+
+-- every count, number and place is below 100,000 (`Small` in Meaning)
+abbrev pub decimal : ℕ → String
+decimal n = decimal-of 5 n
+
+-- "EMPTY (verdict, rows)", "REACHED (steps)", "REFUSED (number, place)"
+abbrev pub printed : String → Answer → String
+printed verdict (accepted count) = verdict ++ " " ++ decimal count
+printed verdict (refused number place) = "REFUSED " ++ decimal number ++ " " ++ decimal place
+
+-- "RN first means a run, else a region list": the lines that may be printed for a table and a second file
+abbrev pub PrintedFor : Bool → List ℕ → List ℕ → String → Type 0
+PrintedFor true table file line = line ≡ printed "REACHED" (run-answer table file)
+PrintedFor false table file line = (answer : Answer) × ListAnswer table file answer × (line ≡ printed "EMPTY" answer)
+
+abbrev pub Printed : List ℕ → List ℕ → String → Type 0
+Printed table file line = PrintedFor (same RN (take 2 file)) table file line

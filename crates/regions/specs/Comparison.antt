@@ -1,0 +1,33 @@
+-- The five comparisons: one table, used by guards, run values and region moves. Assumes nothing.
+use Prim.Native.Nat.{ℕ, compare, Ordering, Ordering·lt, Ordering·eq, Ordering·gt}
+use mathlib.Core.Bool.{Bool, true, false, _||_}
+use mathlib.Core.List.{List, [], _∷_}
+use lib.ListN.{getD}
+
+-- "0 <, 1 ≤, 2 =, 3 ≥, 4 >, each with its yes or no for below, at and above"
+abbrev pub answers : List (List Bool)
+answers =
+    (true ∷ false ∷ false ∷ [])
+    ∷ (true ∷ true ∷ false ∷ [])
+    ∷ (false ∷ true ∷ false ∷ [])
+    ∷ (false ∷ true ∷ true ∷ [])
+    ∷ (false ∷ false ∷ true ∷ [])
+    ∷ []
+
+-- the place of an order in a row of that table: below, at, above
+abbrev pub place : Ordering → ℕ
+place Ordering·lt = 0
+place Ordering·eq = 1
+place Ordering·gt = 2
+
+-- what a comparison answers to an order
+unfoldable pub answer : ℕ → Ordering → Bool
+answer cmp o = getD (getD answers cmp []) (place o) false
+
+-- x stands in the comparison to y
+unfoldable pub holds : ℕ → ℕ → ℕ → Bool
+holds cmp x y = answer cmp (compare x y)
+
+-- whether the comparison allows some order
+unfoldable pub some-answer : ℕ → Bool
+some-answer cmp = answer cmp Ordering·lt || answer cmp Ordering·eq || answer cmp Ordering·gt

@@ -1,0 +1,4 @@
+// The region rules, by value: comparisons, guards, updates, edges, regions and what comes after them. Nothing here knows of files.
+pub mod comparison; // the table of comparisons
+pub mod region; // a region, the clocks' bounds
+pub mod edge; // guards, updates, edges

@@ -1,0 +1,7 @@
+-- The laws of reading files and of admission, for this crate and those above, in the order in which they rest on each other.
+-- bytes and reading
+pub mod Bytes
+pub mod Reading
+-- tables
+pub mod Tables
+pub mod Admission
