@@ -2,6 +2,7 @@
 -- bytes and reading
 pub mod Bytes
 pub mod Reading
+pub mod Records
 -- tables
 pub mod Tables
 pub mod Admission

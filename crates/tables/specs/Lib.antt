@@ -2,6 +2,7 @@
 pub mod Bytes
 pub mod Answer
 pub mod Reading
+pub mod Records
 pub mod TableFile
 pub mod Admission
 pub mod Meaning

@@ -1,3 +1,4 @@
 // Table files: the record reader, edges by value, and the admission.
 pub mod answer; // what a call answers
+pub mod record; // the record reader, numbers in bytes
 pub mod admission; // the admission, and what an admitted file says
