@@ -11,5 +11,6 @@ pub mod Closed
 pub mod Rows
 pub mod Successors
 pub mod Checks
+pub mod Meeting
 pub mod Walk
 pub mod Values

@@ -4,7 +4,9 @@ ghost use Rattle.regions.specs.Comparison.{place, answer, some-answer, h
 ghost use Prim.Native.Nat.{compare};
 
 // Rows: 0 <, 1 ≤, 2 =, 3 ≥, 4 >. Columns: the answer for below, at and above.
-const ANSWERS: [[bool; 3]; 5] = [
+const COMPARISONS: usize = 5;
+
+const ANSWERS: [[bool; 3]; COMPARISONS] = [
     [true, false, false],
     [true, true, false],
     [false, true, false],
@@ -29,10 +31,10 @@ fn side(x: u64, y: u64) -> usize
 pub fn holds(comparison: u8, x: u64, y: u64) -> bool
     ensures { λ r. ⌜ r ≡ holds comparison x y ⌝ }
 {
-    if 5 <= comparison {
+    let row = comparison as usize;
+    if COMPARISONS <= row {
         return false;
     }
-    let row = comparison as usize;
     let column = side(x, y);
     ANSWERS[row][column]
 }

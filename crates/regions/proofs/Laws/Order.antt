@@ -4,8 +4,10 @@ use Prim.Native.Nat.{compare·zero-zero, compare·zero-suc, compare·suc-zero, c
 use native.Mathlib.Nat.{mul-lt-mul-of-pos-left}
 use native.Mathlib.Omega.{arith}
 use mathlib.Core.Path.{_≡_, refl, sym, ap, _∙_}
-use mathlib.Core.Bool.{false}
-use Rattle.regions.specs.Comparison.{place, answer, holds}
+use mathlib.Core.Bool.{Bool, false}
+use mathlib.Core.List.{List, [], _∷_}
+use lib.ListN.{length, getD}
+use Rattle.regions.specs.Comparison.{answers, place, answer, holds}
 
 -- the three cases of two numbers, each with what `compare` says
 pub data Tri (a b : ℕ) : Type 0 where
@@ -88,12 +90,12 @@ place-small Ordering·lt = omega arith
 place-small Ordering·eq = omega arith
 place-small Ordering·gt = omega arith
 
--- a number that names no comparison allows nothing
-pub no-comparison : (cmp x y : ℕ) → 5 ≤ cmp → holds cmp x y ≡ false
+-- a number past the table's last row names no comparison, and allows nothing
+pub no-comparison : (cmp x y : ℕ) → length answers ≤ cmp → holds cmp x y ≡ false
 unfolding holds answer
-no-comparison zero x y h = absurd (omega arith)
-no-comparison (suc zero) x y h = absurd (omega arith)
-no-comparison (suc (suc zero)) x y h = absurd (omega arith)
-no-comparison (suc (suc (suc zero))) x y h = absurd (omega arith)
-no-comparison (suc (suc (suc (suc zero)))) x y h = absurd (omega arith)
-no-comparison (suc (suc (suc (suc (suc k))))) x y h = refl
+no-comparison cmp x y h = ap (λ (row : List Bool). getD row (place (compare x y)) false) (past answers cmp h)
+  where
+    past : (rows : List (List Bool)) (i : ℕ) → length rows ≤ i → getD rows i [] ≡ []
+    past [] i h = refl
+    past (r ∷ rows) zero h = absurd (omega arith)
+    past (r ∷ rows) (suc i) h = past rows i (omega arith)
