@@ -1,5 +1,6 @@
 -- The main theorems, each stated whole. Assumes nothing.
 use Prim.Native.Nat.{ℕ, _*_, _≤_, _<_}
+use Prim.Native.String.{String}
 use mathlib.Core.Path.{_≡_}
 use mathlib.Core.Logic.{_⊎_, _↔_}
 use mathlib.Core.List.{List}
@@ -14,6 +15,7 @@ use Rattle.tables.specs.Answer.{Answer, accepted, refused, packed}
 use Rattle.tables.specs.Admission.{admission, table-of}
 use Rattle.checker.specs.RunFile.{RunList, run-bytes, run-answer}
 use Rattle.checker.specs.RegionFile.{rows-of, row-bytes, rows-bytes, list-bytes, exactly, somewhere, list-outcome, ListAnswer}
+use Rattle.checker.specs.Program.{Printed}
 use Rattle.checker.specs.Follow.{followed, follow-answer, follow-buffer}
 use Rattle.tables.specs.Meaning.{Passes, Limits}
 use Rattle.checker.specs.Meaning.{Small, Reaches, RunListOf, RegionListOf, Lacks, Follows, Written}
@@ -62,6 +64,10 @@ list-prefix = Prefix.list-prefix
 pub follow-prefix : (n : ℕ) → 11 < n → (table row : List ℕ) (number : ℕ) (buffer : List ℕ)
     → (follow-answer table (take n row) number buffer ≡ follow-answer table row number buffer) × (follow-buffer table (take n row) number buffer ≡ follow-buffer table row number buffer)
 follow-prefix = Prefix.follow-prefix
+
+-- so many bytes of both files tell what may be printed
+pub printed-prefix : (table file : List ℕ) (line : String) → Printed (take 65536 table) (take 65536 file) line → Printed table file line
+printed-prefix = Prefix.printed-prefix
 
 -- demand 2: what acceptance means --------------------------------------------------------------------------------------------
 

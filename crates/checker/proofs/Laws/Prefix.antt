@@ -3,6 +3,7 @@ use Prim.Native.Nat.{ℕ, zero, suc, _+_, _*_, _≤_, _<_}
 use native.Mathlib.Omega.{arith}
 use native.Mathlib.Decide.{decLe}
 use native.Mathlib.Nat.{suc-mul}
+use Prim.Native.String.{String}
 use mathlib.Core.Path.{_≡_, refl, sym, ap, _∙_}
 use mathlib.Core.Bool.{Bool, true, false, cond}
 use mathlib.Core.List.{List, [], _∷_, _++_}
@@ -19,8 +20,9 @@ use Rattle.tables.specs.Reading.{Read, good, bad, Reader, carry, done, next-byt
 use Rattle.tables.specs.TableFile.{header, location, edge-record, table-file}
 use Rattle.tables.specs.Admission.{admitted, admission}
 use Rattle.checker.specs.RunFile.{RunList, step-record, run-file, run-checked, run-answer}
-use Rattle.checker.specs.RegionFile.{row-record, region-file, rows-checked, list-outcome, judged, judged-over}
+use Rattle.checker.specs.RegionFile.{row-record, region-file, rows-checked, list-outcome, judged, judged-over, Permits}
 use Rattle.checker.specs.Follow.{rows-followed, following, follow-answer, written, follow-buffer}
+use Rattle.checker.specs.Program.{PrintedFor, Printed}
 use Rattle.tables.proofs.Laws.Reading.{not-good, parts, between-law}
 use Rattle.tables.proofs.Laws.Tables.{HeaderIn, header-in}
 use Rattle.tables.proofs.Laws.Admission.{read-limits}
@@ -261,3 +263,31 @@ unfolding follow-answer follow-buffer following
 follow-prefix n l table row number buffer =
     let e = over table _ _ (λ T few. settled-take (rows-followed T number (length buffer)) 11 n (settled-follow T few number (length buffer)) l row) in
     (ap (answered length) e, ap (λ (r : Read (List Row)). written r buffer) e)
+
+-- of both files, what a program prints --------------------------------------------------------------------------------------------
+
+first-two : (n : ℕ) → 2 ≤ n → (file : List ℕ) → take 2 (take n file) ≡ take 2 file
+first-two zero h file = absurd (omega arith)
+first-two (suc zero) h file = absurd (omega arith)
+first-two (suc (suc n)) h [] = refl
+first-two (suc (suc n)) h (x ∷ []) = refl
+first-two (suc (suc n)) h (x ∷ (y ∷ file)) = refl
+
+-- the first 65,536 bytes of both files tell what may be printed
+module _ (table file : List ℕ) where
+  enough-run : run-answer (take 65536 table) (take 65536 file) ≡ run-answer table file
+  unfolding run-answer
+  enough-run =
+      ap (λ (r : Read Table). answered (λ (l : RunList). length (l .moves)) (carry r (λ T _. run-checked T (take 65536 file)))) (admitted-prefix 65536 (omega arith) table)
+      ∙ run-prefix 65536 (omega arith) table file
+
+  enough-list : list-outcome (take 65536 table) (take 65536 file) ≡ list-outcome table file
+  unfolding list-outcome
+  enough-list = ap (λ (r : Read Table). judged-over r (take 65536 file)) (admitted-prefix 65536 (omega arith) table) ∙ list-prefix 65536 (omega arith) table file
+
+  pub printed-prefix : (line : String) → Printed (take 65536 table) (take 65536 file) line → Printed table file line
+  printed-prefix line p = go (same RN (take 2 file)) (rw (first-two 65536 (omega arith) file) at p)
+    where
+      go : (b : Bool) → PrintedFor b (take 65536 table) (take 65536 file) line → PrintedFor b table file line
+      go true h = rw enough-run at h
+      go false h = (h .0, rw enough-list at (h .1), h .2)
