@@ -1,0 +1,38 @@
+#!/usr/bin/env bash
+# Runs the program on each folder of tests/program, and on files that are longer than any it accepts, and compares what it prints with the
+# line expected there (where a place is free, one of the lines between '|'). The last line is 'N passed, M failed'.
+set -u
+cd "$(dirname "$0")/.." || exit 1
+program=$PWD/target/bin/tzelmaruf
+room=$(mktemp -d) && trap 'rm -rf "$room"' EXIT
+passed=0 failed=0
+
+# check NAME FOLDER EXPECTED
+check() {
+  local got
+  got=$(cd "$2" && "$program" 2>&1)
+  case "|$3|" in
+    *"|$got|"*) passed=$((passed + 1)) ;;
+    *) failed=$((failed + 1)); echo "program: $1: printed '$got', expected '$3'" ;;
+  esac
+}
+
+for folder in tests/program/*/; do
+  check "$(basename "$folder")" "$folder" "$(cat "$folder/expected")"
+done
+
+# a megabyte after the last record, of a table, a region list and a run list
+long() {
+  rm -rf "$room/long" && cp -r "$2" "$room/long" && head -c 1000000 /dev/zero >> "$room/long/$3"
+  check "$1" "$room/long" "$4"
+}
+long table-overlong tests/program/p1 table.tab 'REFUSED 4 6'
+long list-overlong tests/program/p1 proof.prf 'REFUSED 9 9'
+long run-overlong tests/program/p4-at-most proof.prf 'REFUSED 9 3'
+
+# names that cannot be read as files: a folder, and a file without permission (which root reads all the same, so it is left out there)
+mkdir -p "$room/folder/table.tab" "$room/folder/proof.prf"
+check folders "$room/folder" 'REFUSED 1 0'
+
+echo "$passed passed, $failed failed"
+[ "$failed" -eq 0 ]
