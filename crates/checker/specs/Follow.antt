@@ -26,6 +26,7 @@ rows-followed T number room = do
   require 19 0 (leb (length (rows-bytes (followed T number r))) room)
   done (followed T number r)
 
+-- "All calls check 1 to 6 first"
 unfoldable pub following : List ℕ → List ℕ → ℕ → List ℕ → Read (List Row)
 following table row number buffer = carry (admitted table) (λ T _. rows-followed T number (length buffer) row)
 
@@ -38,5 +39,6 @@ abbrev pub written : Read (List Row) → List ℕ → List ℕ
 written (good rows rest) buffer = rows-bytes rows ++ drop (length (rows-bytes rows)) buffer
 written (bad number place) buffer = buffer
 
+-- the buffer after the call
 unfoldable pub follow-buffer : List ℕ → List ℕ → ℕ → List ℕ → List ℕ
 follow-buffer table row number buffer = written (following table row number buffer) buffer

@@ -17,7 +17,7 @@ use Rattle.tables.specs.Answer.{Answer, accepted, refused}
 use Rattle.checker.specs.RunFile.{RunList, run-bytes}
 use Rattle.checker.specs.RegionFile.{row-bytes, rows-bytes, list-bytes}
 
--- a count of at most 4,096, or a refusal number of 1 to 19 and a place of at most 4,097
+-- what admission and both checks answer: a count of at most 4,096, or a refusal number of 1 to 19 and a place of at most 4,097
 abbrev pub Small : Answer → Type 0
 Small (accepted count) = count ≤ 4096
 Small (refused number place) = (1 ≤ number) × (number ≤ 19) × (place ≤ 4097)

@@ -50,16 +50,19 @@ abbrev pub rows-read : Read (List Row) → List Row
 rows-read (good rows rest) = rows
 rows-read (bad number place) = []
 
+-- the rows of a file
 unfoldable pub rows-of : Table → List ℕ → List Row
 rows-of T file = rows-read (region-file T file)
 
--- a row's record, and "RL, their count and the rows, with nothing after them"
+-- a row's record
 abbrev pub row-bytes : Row → List ℕ
 row-bytes r = RW ++ (r .location ∷ (r .intervals ++ r .ranks))
 
+-- the records of rows, one after the other
 abbrev pub rows-bytes : List Row → List ℕ
 rows-bytes rows = gather row-bytes rows
 
+-- "RL, their count and the rows, with nothing after them"
 abbrev pub list-bytes : List Row → List ℕ
 list-bytes rows = RL ++ (two-bytes (length rows) ++ rows-bytes rows)
 
@@ -89,7 +92,7 @@ rows-checked T = do
   require 16 0 (has rows (first-row T))
   done rows
 
--- "A row lacks a next row": the places of those of these rows that do, among all the rows
+-- "A row lacks a next row", "the wait row" or one of "all edge rows": the places of those of these rows that do, among all the rows
 unfoldable pub lacking : Table → List Row → ℕ → List Row → List ℕ
 lacking T rows place [] = []
 lacking T rows place (r ∷ rest) =
@@ -101,11 +104,12 @@ pub data Outcome : Type 0 where
   exactly : Answer → Outcome
   somewhere : List ℕ → Outcome
 
--- "Acceptance carries the count of rows"
+-- "Acceptance carries the count of .. rows"
 abbrev pub concluded : ℕ → List ℕ → Outcome
 concluded count [] = exactly (accepted count)
 concluded count (place ∷ places) = somewhere (place ∷ places)
 
+-- the refusal, or what the rows lack
 abbrev pub judged : Table → Read (List Row) → Outcome
 judged T (good rows rest) = concluded (length rows) (lacking T rows 1 rows)
 judged T (bad number place) = exactly (refused number place)
@@ -115,6 +119,7 @@ abbrev pub judged-over : Read Table → List ℕ → Outcome
 judged-over (good T rest) file = judged T (rows-checked T file)
 judged-over (bad number place) file = exactly (refused number place)
 
+-- the outcome of the check
 unfoldable pub list-outcome : List ℕ → List ℕ → Outcome
 list-outcome table file = judged-over (admitted table) file
 
@@ -123,5 +128,6 @@ abbrev pub Permits : Outcome → Answer → Type 0
 Permits (exactly a) answer = answer ≡ a
 Permits (somewhere places) answer = (place : ℕ) × Mem place places × (answer ≡ refused 17 place)
 
+-- the answers that the check may give
 abbrev pub ListAnswer : List ℕ → List ℕ → Answer → Type 0
 ListAnswer table file answer = Permits (list-outcome table file) answer

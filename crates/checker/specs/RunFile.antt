@@ -26,6 +26,7 @@ step-record T place = do
   require 8 place (ltb (two b 2) (length (T .edges)))
   done (record { number = two b 2; delay = four b 4; values = each (clocks T) (λ (z : ℕ). four b (8 + 4 * z)) })
 
+-- what a run list says
 pub record RunList : Type 0 where
   pub scale : ℕ
   pub moves : List Move
@@ -42,10 +43,11 @@ run-file T = do
   end 9 (1 + steps)
   done (record { scale = scale; moves = moves })
 
--- the file of a run: a step's record, and all
+-- the record of a step
 abbrev pub move-bytes : Move → List ℕ
 move-bytes m = ST ++ (two-bytes (m .number) ++ (four-bytes (m .delay) ++ gather four-bytes (m .values)))
 
+-- the whole file
 abbrev pub run-bytes : RunList → List ℕ
 run-bytes r = RN ++ (two-bytes (r .scale) ++ (two-bytes (length (r .moves)) ++ gather move-bytes (r .moves)))
 
@@ -61,6 +63,7 @@ allowed-byb D v z x cmp keep = eqb x (at v z)
 allowed-byb D v z x cmp (constant k) = holds cmp x (k * D)
 allowed-byb D v z x cmp (clock y up down) = holds cmp (x + down * D) (at v y + up * D)
 
+-- so of each clock
 abbrev pub allowedb : ℕ → List ℕ → List ℕ → List Update → Bool
 allowedb D v v′ us = allb (length v) (λ (z : ℕ). allowed-byb D v z (at v′ z) (getD us z idle .comparison) (getD us z idle .action))
 

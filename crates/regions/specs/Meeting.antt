@@ -9,7 +9,7 @@ use Rattle.regions.specs.Run.{State, Move, Run}
 use Rattle.regions.specs.Closed.{Mem, RowOf, first-row}
 use Rattle.regions.specs.Successors.{next-rows}
 
--- the row is the table's, and "contains a point that some run, with a wait after its last step, gets to"
+-- the row is the table's, and contains a point that some run, with a wait after its last step, gets to
 pub record Met (T : Table) (r : Row) : Type 0 where
   pub row-of : RowOf T r
   pub D : ℕ

@@ -1,13 +1,12 @@
 -- What the code's values stand for: bounds, rows and edges as the definitions have them. Assumes nothing.
-use Prim.Native.Nat.{ℕ, _-_, _≤_, _<_}
-use mathlib.Core.Path.{_≡_}
+use Prim.Native.Nat.{ℕ, _-_, _≤_}
 use mathlib.Core.Bool.{Bool, true, false}
 use mathlib.Core.Option.{Option, none, some}
 use mathlib.Core.List.{List, [], _++_, map}
 use lib.ListN.{length, take, replicate}
 use Rattle.regions.specs.Clocks.{at}
-use Rattle.regions.specs.Row.{Row, IsRow}
-use Rattle.regions.specs.Edge.{Guard, Action, keep, constant, clock, Update, Edge, Bounded}
+use Rattle.regions.specs.Row.{Row}
+use Rattle.regions.specs.Edge.{Guard, Action, keep, constant, clock, Update, Edge}
 use Rattle.regions.specs.declared.region.Clocks as clocks-code
 use Rattle.regions.specs.declared.region.Region.{Region}
 use Rattle.regions.specs.declared.region.Sought.{Sought}
@@ -22,7 +21,7 @@ use Rattle.regions.specs.declared.edge.Edge as edge-code
 abbrev pub bounds-of : clocks-code.Clocks → List ℕ
 bounds-of k = take (k .count) (k .bounds)
 
--- at most four clocks, with bounds whose intervals are numbers of two bytes
+-- at most four clocks, with bounds whose intervals are numbers of two bytes: the rules do not ask for the file's limit of 127
 pub record Few (k : clocks-code.Clocks) : Type 0 where
   pub few : k .count ≤ 4
   pub low : (z : ℕ) → at (k .bounds) z ≤ 16383
@@ -56,6 +55,7 @@ found-of n s = by (s .found)
 
 -- edges -------------------------------------------------------------------------------------------------------------------------
 
+-- the guard, the update and what it does, field by field
 abbrev pub guard-of : guard-code.Guard → Guard
 guard-of g = record { clock = g .clock; comparison = g .comparison; constant = g .constant }
 

@@ -1,6 +1,6 @@
 // A region is a value, document 01's row: a location, and for each clock its interval and the rank of its fractional part.
 
-// The clocks and their bounds; from count on the bounds are 0.
+// The clocks and their bounds: one for each of the first `count`.
 pub struct Clocks {
     pub count: u8,
     pub bounds: [u16; 4],

@@ -14,10 +14,11 @@ use Rattle.tables.specs.TableFile.{table-file}
 
 -- the bound rules ------------------------------------------------------------------------------------------------------------
 
--- "each guard constant and constant update on z is at most c(z)"
+-- "each guard constant .. on z is at most c(z)"
 abbrev pub guard-bounded : List ℕ → Guard → Bool
 guard-bounded c g = leb (g .constant) (at c (g .clock))
 
+-- "each .. constant update on z is at most c(z)"
 abbrev pub constant-bounded : List ℕ → ℕ → Action → Bool
 constant-bounded c z keep = true
 constant-bounded c z (constant k) = leb k (at c z)
@@ -54,6 +55,7 @@ admitted = do
 abbrev pub record-count : Table → ℕ
 record-count T = 1 + T .locations + length (T .edges)
 
+-- the answer of the admission
 unfoldable pub admission : List ℕ → Answer
 admission file = answered record-count (admitted file)
 
@@ -62,5 +64,6 @@ abbrev pub table-read : Read Table → Table
 table-read (good T rest) = T
 table-read (bad number place) = record { bounds = []; locations = 0; initial = 0; finals = []; edges = [] }
 
+-- the table of a file
 unfoldable pub table-of : List ℕ → Table
 table-of file = table-read (admitted file)

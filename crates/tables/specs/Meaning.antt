@@ -12,7 +12,7 @@ use Rattle.tables.specs.Admission.{admission}
 abbrev pub Passes : List ℕ → Type 0
 Passes table = (records : ℕ) × (admission table ≡ accepted records)
 
--- document 01's limits on a table: "clocks n (1 to 4), locations L (1 to 64), .. edges E (.. 0 to 256), then n bounds (0 to 127)"
+-- document 01's limits on a table's header and counts: "clocks n (1 to 4), locations L (1 to 64), .. edges E (.. 0 to 256), then n bounds (0 to 127)"
 pub record Limits (T : Table) : Type 0 where
   pub some-clock : 1 ≤ clocks T
   pub few-clocks : clocks T ≤ 4

@@ -12,6 +12,7 @@ pub data Read (A : Type 0) : Type 0 where
   good : A → List ℕ → Read A
   bad : ℕ → ℕ → Read A
 
+-- a reading takes the bytes from where it stands to the end of the file
 abbrev pub Reader : Type 0 → Type 0
 Reader A = List ℕ → Read A
 
@@ -21,9 +22,11 @@ unfoldable pub carry : {A B : Type 0} → Read A → (A → Reader B) → Read B
 carry (good a rest) next = next a rest
 carry (bad number place) next = bad number place
 
+-- a reading whose value the next one uses
 abbrev pub _>>=_ : {A B : Type 0} → Reader A → (A → Reader B) → Reader B
 _>>=_ first next = λ file. carry (first file) next
 
+-- a reading, then another
 abbrev pub _>>_ : {A B : Type 0} → Reader A → Reader B → Reader B
 _>>_ first next = λ file. carry (first file) (λ _. next)
 

@@ -1,6 +1,6 @@
 -- Parts of a file, for the record reader. Assumes nothing.
 use Prim.Native.Nat.{ℕ, _+_}
-use mathlib.Core.Bool.{cond, _&&_}
+use mathlib.Core.Bool.{cond}
 use mathlib.Core.List.{List, []}
 use lib.ListN.{length, take, drop}
 use lib.Dec.{leb}

@@ -14,6 +14,7 @@ use Rattle.tables.specs.Reading.{Reader, _>>=_, _>>_, done, next-bytes, 
 
 -- the header -----------------------------------------------------------------------------------------------------------------
 
+-- what the header says
 pub record Header : Type 0 where
   pub locations : ℕ
   pub initial : ℕ
@@ -39,7 +40,7 @@ header = do
 
 -- locations ------------------------------------------------------------------------------------------------------------------
 
--- "LO: flags; bit 0 is final, bit 1 is brief, the others are 0"; what is kept is whether the location is final
+-- "LO, L times: flags; bit 0 is final, bit 1 is brief, the others are 0"; what is kept is whether the location is final
 unfoldable pub location : ℕ → Reader Bool
 location place = do
   b ← next-record 1 place LO 3
@@ -53,16 +54,18 @@ location place = do
 abbrev pub guard : List ℕ → ℕ → Guard
 guard b p = record { clock = at b p; comparison = at b (p + 1); constant = at b (p + 2) }
 
+-- "(clock, comparison, constant 0 to 127)": in range
 abbrev pub guard-in-range : ℕ → Guard → Bool
 guard-in-range n g = ltb (g .clock) n && leb (g .comparison) 4 && leb (g .constant) 127
 
--- "five bytes (kind, comparison, clock y, offset in two bytes, signed)", from byte p on
+-- "five bytes (kind, comparison, clock y, offset in two bytes, signed)"
 pub record Fields : Type 0 where
   pub kind : ℕ
   pub comparison : ℕ
   pub y : ℕ
   pub offset : ℕ
 
+-- those from byte p on
 abbrev pub fields : List ℕ → ℕ → Fields
 fields b p = record { kind = at b p; comparison = at b (p + 1); y = at b (p + 2); offset = two b (p + 3) }
 
@@ -73,13 +76,15 @@ fields-in-range n f =
     || (eqb (f .kind) 1 && leb (f .comparison) 4 && eqb (f .y) 0 && leb (f .offset) 127)
     || (eqb (f .kind) 2 && leb (f .comparison) 4 && ltb (f .y) n && leb (up (f .offset)) 127 && leb (down (f .offset)) 127)
 
+-- what fields in range say
 abbrev pub action : Fields → Action
 action f = cond (eqb (f .kind) 0) keep (cond (eqb (f .kind) 1) (constant (f .offset)) (clock (f .y) (up (f .offset)) (down (f .offset))))
 
+-- the update: what it does, beside its comparison
 abbrev pub update : Fields → Update
 update f = record { action = action f; comparison = f .comparison }
 
--- "ED: source location, target location, guard count (0 to 8); then guards; then one update for each clock in order"
+-- "ED, E times: source location, target location, guard count (0 to 8); then guards; then one update for each clock in order"
 -- "an edge's guards and updates, all together, only after its guard count and the fields before that pass"
 unfoldable pub edge-record : ℕ → ℕ → ℕ → Reader Edge
 edge-record n L place = do

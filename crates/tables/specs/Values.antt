@@ -1,5 +1,5 @@
 -- What the code's values stand for: answers, and what it keeps of an admitted table. Assumes nothing.
-use Prim.Native.Nat.{ℕ, _≤_, _<_}
+use Prim.Native.Nat.{ℕ}
 use mathlib.Core.Path.{_≡_}
 use mathlib.Core.List.{List}
 use lib.ListN.{length}
@@ -28,7 +28,7 @@ pub record Describes (file : List ℕ) (h : Head) : Type 0 where
   pub initial : h .initial ≡ table-of file .initial
   pub edges : h .edges ≡ length (table-of file .edges)
 
--- number 0 and what the table is read by, or the refusal
+-- number 0 and what the table is read by, whatever the place; or the refusal, whatever stands beside it
 abbrev pub Opens : List ℕ → Opened → Type 0
 Opens file o = by (admitted file)
   where

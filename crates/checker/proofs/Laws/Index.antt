@@ -3,10 +3,13 @@ use Prim.Native.Nat.{ℕ, _*_, _≤_, _<_}
 use Prim.Native.String.{String}
 use mathlib.Core.Path.{_≡_}
 use mathlib.Core.Logic.{_⊎_, _↔_}
+use mathlib.Core.Option.{none}
 use mathlib.Core.List.{List}
 use lib.ListN.{length, take}
 use Rattle.regions.specs.Row.{Row}
 use Rattle.regions.specs.Point.{Contains, later, scaled}
+use Rattle.regions.specs.Wait.{wait}
+use Rattle.regions.proofs.Laws.Index as Regions
 use Rattle.regions.specs.Automaton.{Table, Admitted}
 use Rattle.regions.specs.Run.{Reached}
 use Rattle.regions.specs.Closed.{Mem, RowOf, Closed, ExactlyOne}
@@ -106,6 +109,10 @@ pub waiting-first : (T : Table) → Limits T → (r r′ : Row) → RowOf T r �
     → ((t : ℕ) × Contains (T .bounds) (2 * D) (later t (scaled 2 v)) r′)
     × ((t : ℕ) → Contains (T .bounds) D (later t v) r ⊎ ((t′ : ℕ) × (t′ ≤ 2 * t) × Contains (T .bounds) (2 * D) (later t′ (scaled 2 v)) r′))
 waiting-first = Claims.waiting-first
+
+-- and where waiting leads nowhere the row is never left
+pub waiting-last : (T : Table) (r : Row) → RowOf T r → wait (T .bounds) r ≡ none → (D : ℕ) (v : List ℕ) → Contains (T .bounds) D v r → (t : ℕ) → Contains (T .bounds) D (later t v) r
+waiting-last T r R e D v c t = Regions.rest (T .bounds) D v r (R .is-row) c e t
 
 -- every row of the table is followed by every edge and by waiting, given room
 pub follow-accepts : (table : List ℕ) → Passes table → (r : Row) → RowOf (table-of table) r → (number : ℕ) → (number < length (table-of table .edges)) ⊎ (number ≡ 65535)

@@ -97,7 +97,7 @@ checked T file list left h =
     tested _ _ _ _ _ h2 λ t3 h3.
     let x : r ≡ list = cc in
     let R = run-read-law T file r f1 e1 in
-    rw (← x) (record { read = R; state = s; run = steps-run T (r .scale) (r .moves) f1 s f2 (R .moves-in) e2; ends = t3 })
+    rw (← x) (record { read = R; state = s; run = steps-run T (r .scale) (R .scale-low) (r .moves) f1 s f2 (R .moves-in) e2; ends = t3 })
 
 checks : (T : Table) (r : RunList) → Reaches T r → run-checked T (run-bytes r) ≡ good r []
 unfolding run-checked

@@ -45,7 +45,7 @@ snoc stop m h = onward m h stop
 snoc (onward k g f) m h = onward k g (snoc f m h)
 
 in-order : {T : Table} {D : ℕ} {s : State} {ms : List Move} → Run T D ms s → Steps T D (first T) ms s
-in-order begin = stop
+in-order (begin d) = stop
 in-order (move m r h) = snoc (in-order r) m h
 
 -- the check ------------------------------------------------------------------------------------------------------------------
@@ -71,9 +71,9 @@ lead-on T D place s (m ∷ ms) f s′ left i before r h =
     lead-on T D (place + 1) (after T m) ms f s′ left (λ x q. i x (List·Memᴰ·tail q)) (before ++ (m ∷ [])) (move m r step) h3 in
     rw append-assoc at g
 
-pub steps-run : (T : Table) (D : ℕ) (ms : List Move) (f : List ℕ) (s : State) (left : List ℕ) → ((m : Move) → Mem m ms → MoveIn T m)
+pub steps-run : (T : Table) (D : ℕ) → 0 < D → (ms : List Move) (f : List ℕ) (s : State) (left : List ℕ) → ((m : Move) → Mem m ms → MoveIn T m)
     → steps-taken T D 1 (first T) ms f ≡ good s left → Run T D ms s
-steps-run T D ms f s left i h = lead-on T D 1 (first T) ms f s left i [] begin h
+steps-run T D d ms f s left i h = lead-on T D 1 (first T) ms f s left i [] (begin d) h
 
 pass : (T : Table) (D place : ℕ) (f : List ℕ) {s s′ : State} {ms : List Move} → Steps T D s ms s′ → steps-taken T D place s ms f ≡ good s′ f
 unfolding steps-taken
