@@ -1,0 +1,163 @@
+//! The timed automaton a table file describes.
+
+use std::cmp::Ordering;
+
+pub const GREATEST_CLOCKS: usize = 4;
+pub const GREATEST_LOCATIONS: usize = 64;
+pub const GREATEST_EDGES: usize = 256;
+pub const GREATEST_BOUND: u8 = 127;
+pub const GREATEST_GUARDS: usize = 8;
+
+/// The five comparisons, in the order of their file numbers.
+#[derive(Clone, Copy, Debug, PartialEq, Eq, Hash)]
+pub enum Comparison {
+    Less,
+    AtMost,
+    Equal,
+    AtLeast,
+    Greater,
+}
+
+impl Comparison {
+    pub const ALL: [Comparison; 5] = [
+        Comparison::Less,
+        Comparison::AtMost,
+        Comparison::Equal,
+        Comparison::AtLeast,
+        Comparison::Greater,
+    ];
+
+    pub fn from_byte(byte: u8) -> Option<Self> {
+        Self::ALL.get(usize::from(byte)).copied()
+    }
+
+    pub fn byte(self) -> u8 {
+        self as u8
+    }
+
+    /// Whether a value that stands so to the other side is in the comparison.
+    pub fn holds(self, ordering: Ordering) -> bool {
+        match self {
+            Comparison::Less => ordering == Ordering::Less,
+            Comparison::AtMost => ordering != Ordering::Greater,
+            Comparison::Equal => ordering == Ordering::Equal,
+            Comparison::AtLeast => ordering != Ordering::Less,
+            Comparison::Greater => ordering == Ordering::Greater,
+        }
+    }
+}
+
+/// Clock against constant.
+#[derive(Clone, Copy, Debug, PartialEq, Eq)]
+pub struct Guard {
+    pub clock: u8,
+    pub comparison: Comparison,
+    pub constant: u8,
+}
+
+/// What an edge asks of one clock's new value.
+#[derive(Clone, Copy, Debug, PartialEq, Eq)]
+pub enum Update {
+    Keep,
+    Constant {
+        comparison: Comparison,
+        constant: u8,
+    },
+    Clock {
+        comparison: Comparison,
+        clock: u8,
+        offset: i16,
+    },
+}
+
+/// The right side of an update, once keep is read as "equals the old self plus 0".
+#[derive(Clone, Copy, Debug, PartialEq, Eq)]
+pub enum Term {
+    Constant(u8),
+    Clock { clock: usize, offset: i16 },
+}
+
+impl Update {
+    /// The update of `own` as a comparison to a term.
+    pub fn relation(self, own: usize) -> (Comparison, Term) {
+        match self {
+            Update::Keep => (
+                Comparison::Equal,
+                Term::Clock {
+                    clock: own,
+                    offset: 0,
+                },
+            ),
+            Update::Constant {
+                comparison,
+                constant,
+            } => (comparison, Term::Constant(constant)),
+            Update::Clock {
+                comparison,
+                clock,
+                offset,
+            } => (
+                comparison,
+                Term::Clock {
+                    clock: usize::from(clock),
+                    offset,
+                },
+            ),
+        }
+    }
+}
+
+#[derive(Clone, Debug, PartialEq, Eq)]
+pub struct Edge {
+    pub source: u8,
+    pub target: u8,
+    pub guards: Vec<Guard>,
+    /// One for each clock, in the order of the clocks.
+    pub updates: Vec<Update>,
+}
+
+#[derive(Clone, Copy, Debug, PartialEq, Eq)]
+pub struct Location {
+    pub is_final: bool,
+    /// For the pump's screen only; runs and regions never look at it.
+    pub is_brief: bool,
+}
+
+#[derive(Clone, Debug, PartialEq, Eq)]
+pub struct Automaton {
+    pub initial: u8,
+    /// One for each clock; their number is the number of clocks.
+    pub bounds: Vec<u8>,
+    pub locations: Vec<Location>,
+    pub edges: Vec<Edge>,
+}
+
+impl Automaton {
+    pub fn clocks(&self) -> usize {
+        self.bounds.len()
+    }
+
+    pub fn is_final(&self, location: u8) -> bool {
+        self.locations[usize::from(location)].is_final
+    }
+
+    /// The number of records its file has: header, locations, edges.
+    pub fn records(&self) -> usize {
+        1 + self.locations.len() + self.edges.len()
+    }
+
+    /// The record number of an edge in the file.
+    pub fn edge_place(&self, edge: usize) -> u16 {
+        (1 + self.locations.len() + edge) as u16
+    }
+
+    /// Edge numbers by source location, so that a walk over many rows does not
+    /// look at edges that leave from elsewhere.
+    pub fn leaving(&self) -> Vec<Vec<usize>> {
+        let mut leaving = vec![Vec::new(); self.locations.len()];
+        for (number, edge) in self.edges.iter().enumerate() {
+            leaving[usize::from(edge.source)].push(number);
+        }
+        leaving
+    }
+}

@@ -1,0 +1,28 @@
+//! An independent reading of the Tzelmaruf rules: admission of timing tables,
+//! checks of run lists and region lists, and the following of one region.
+//!
+//! It shares no code with the checker it is compared with. Wherever a rule can
+//! be put in two ways, the plain way (by points) is kept beside the fast one
+//! (by intervals and ranks), and the tests hold one against the other.
+
+pub mod admit;
+pub mod answer;
+pub mod automaton;
+pub mod concrete;
+pub mod explore;
+pub mod follow;
+pub mod format;
+pub mod generate;
+pub mod region;
+pub mod region_list;
+pub mod run;
+pub mod successor;
+pub mod verdict;
+
+pub use admit::admit;
+pub use answer::{Answer, Refusal};
+pub use automaton::Automaton;
+pub use follow::follow;
+pub use region::Region;
+pub use region_list::{check_regions, ListAnswer};
+pub use run::check_run;
