@@ -1,0 +1,235 @@
+-- Edge records: an edge within the limits is read back from its bytes. Assumes nothing.
+use Prim.Native.Nat.{ℕ, zero, suc, _+_, _*_, _-_, _/_, _%_, _≤_, _<_}
+use native.Mathlib.Decide.{decLt}
+use native.Mathlib.Omega.{arith}
+use mathlib.Core.Path.{_≡_, refl, sym, ap, _∙_}
+use mathlib.Core.Bool.{true}
+use mathlib.Core.Logic.{_⊎_, inl, inr}
+use mathlib.Core.List.{List, [], _∷_, _++_, map, map-map}
+use lib.ListN.{length, getD, length-append, List·getD-append}
+use lib.Seq.{getD-append-add}
+use lib.Dec.{leb, ltb}
+use borrow.Author.Tests.{le-leb, lt-ltb, le-ltb}
+use Rattle.regions.specs.Clocks.{at}
+use Rattle.regions.specs.Edge.{Guard, Action, keep, constant, clock, Update, Edge, idle}
+use Rattle.regions.specs.Closed.{Mem}
+use Rattle.regions.specs.Rows.{from, gather}
+use Rattle.regions.specs.Checks.{every}
+use Rattle.regions.proofs.Laws.Members.{getD-in, map-out, from-out}
+use Rattle.regions.proofs.Laws.Checks.{every-law}
+use Rattle.tables.specs.Bytes.{AreBytes, ED, two, two-bytes, up, down}
+use Rattle.tables.specs.Reading.{good, _>>=_}
+use Rattle.tables.specs.TableFile.{guard, guard-in-range, Fields, fields, fields-in-range, update, edge-record}
+use Rattle.tables.specs.TableBytes.{guard-bytes, offset-bytes, action-bytes, update-bytes, edge-bytes, GuardFields, Offset, UpdateFields, EdgeFields}
+use Rattle.tables.proofs.Laws.Bytes.{bytes-append, gather-bytes}
+use Rattle.tables.proofs.Laws.Reading.{itself, goes, passes, bytes-back, record-back}
+use Rattle.tables.proofs.Laws.Tables.{ActionIn, EdgeIn}
+
+-- parts of one width, one after the other ------------------------------------------------------------------------------------
+
+module _ {A : Type 0} (f : A → List ℕ) (k : ℕ) (wide : (a : A) → length (f a) ≡ k) where
+  pub length-parts : (xs : List A) → length (gather f xs) ≡ k * length xs
+  length-parts [] = omega arith
+  length-parts (x ∷ xs) = length-append (f x) (gather f xs) ∙ omega (arith, wide x, length-parts xs)
+
+  -- byte j of part i
+  pub at-part : (xs : List A) (i j : ℕ) (d : A) → i < length xs → j < k → at (gather f xs) (k * i + j) ≡ at (f (getD xs i d)) j
+  at-part [] i j d h l = absurd (omega arith)
+  at-part (x ∷ xs) zero j d h l =
+      let e : k * 0 + j ≡ j = omega arith in
+      ap (at (f x ++ gather f xs)) e ∙ List·getD-append (f x) (gather f xs) 0 j (omega (arith, wide x))
+  at-part (x ∷ xs) (suc i) j d h l =
+      let e : k * suc i + j ≡ length (f x) + (k * i + j) = omega (arith, wide x) in
+      ap (at (f x ++ gather f xs)) e ∙ getD-append-add (f x) (gather f xs) (k * i + j) 0 ∙ at-part xs i j d (omega arith) l
+
+-- a list from its elements
+map-from : {A : Type 0} (f : ℕ → A) (d : A) (xs : List A) → ((i : ℕ) → i < length xs → f i ≡ getD xs i d) → map f (from 0 (length xs)) ≡ xs
+map-from {A} f d xs h = go 0 xs (λ i l. let e : 0 + i ≡ i = omega arith in ap f e ∙ h i l)
+  where
+    go : (a : ℕ) (xs : List A) → ((i : ℕ) → i < length xs → f (a + i) ≡ getD xs i d) → map f (from a (length xs)) ≡ xs
+    go a [] h = refl
+    go a (x ∷ xs) h =
+        let e : a ≡ a + 0 = omega arith in
+        λ i. (ap f e ∙ h 0 (omega arith)) i ∷ go (a + 1) xs (λ k l. let q : a + 1 + k ≡ a + suc k = omega arith in ap f q ∙ h (suc k) (omega arith)) i
+
+-- offsets --------------------------------------------------------------------------------------------------------------------
+
+signed-up : (w : ℕ) → w < 32768 → (up w ≡ w) × (down w ≡ 0)
+signed-up w h = rw (lt-ltb w 32768 h) (refl, refl)
+
+signed-down : (w : ℕ) → 32768 ≤ w → (up w ≡ 0) × (down w ≡ 65536 - w)
+signed-down w h = rw (le-ltb w 32768 h) (refl, refl)
+
+offset-back : (u d : ℕ) → Offset u d → (up (two (offset-bytes u d) 0) ≡ u) × (down (two (offset-bytes u d) 0) ≡ d)
+offset-back u d o = let e : two (offset-bytes u d) 0 ≡ (65536 + u - d) % 65536 = omega arith in rw e (go o (decLt 0 d))
+  where
+    w : ℕ
+    w = (65536 + u - d) % 65536
+
+    go : Offset u d → Dec (0 < d) → (up w ≡ u) × (down w ≡ d)
+    go (inl (e, l)) q = let s = signed-up w (omega arith) in (s .0 ∙ omega arith, s .1 ∙ sym e)
+    go (inr (e, l)) (yes q) = let s = signed-down w (omega arith) in (s .0 ∙ sym e, s .1 ∙ omega arith)
+    go (inr (e, l)) (no q) = let s = signed-up w (omega arith) in (s .0 ∙ omega arith, s .1 ∙ omega arith)
+
+-- updates --------------------------------------------------------------------------------------------------------------------
+
+update-wide : (u : Update) → length (update-bytes u) ≡ 5
+update-wide u = go (u .action)
+  where
+    go : (a : Action) → length (action-bytes (u .comparison) a) ≡ 5
+    go keep = refl
+    go (constant k) = refl
+    go (clock y up down) = refl
+
+-- the fields in an update's bytes
+abbrev fields-of : Update → Fields
+fields-of u = fields (update-bytes u) 0
+
+update-back : (u : Update) → UpdateFields (u .comparison) (u .action) → update (fields-of u) ≡ u
+update-back u h = go (u .comparison) (u .action) h
+  where
+    go : (c : ℕ) (a : Action) → UpdateFields c a → update (fields-of (record { action = a; comparison = c })) ≡ record { action = a; comparison = c }
+    go c keep e = λ i. record { action = keep; comparison = sym e i }
+    go c (constant k) t = let e : two (two-bytes k) 0 ≡ k = omega arith in λ i. record { action = constant (e i); comparison = c }
+    go c (clock y u d) (l, o) = let (p, q) = offset-back u d o in λ i. record { action = clock y (p i) (q i); comparison = c }
+
+update-range : (n : ℕ) (u : Update) → UpdateFields (u .comparison) (u .action) → ActionIn n (u .action) → fields-in-range n (fields-of u) ≡ true
+update-range n u h k = go (u .comparison) (u .action) h k
+  where
+    go : (c : ℕ) (a : Action) → UpdateFields c a → ActionIn n a → fields-in-range n (fields-of (record { action = a; comparison = c })) ≡ true
+    go c keep e k = refl
+    go c (constant x) (l, m) k = let e : two (two-bytes x) 0 ≡ x = omega arith in rw (e, le-leb c 4 l, le-leb x 127 m)
+    go c (clock y u d) (l, o) k = let (p, q) = offset-back u d o in rw (p, q, le-leb c 4 l, lt-ltb y n k, le-leb u 127 (high o), le-leb d 127 (low o))
+      where
+        high : Offset u d → u ≤ 127
+        high (inl t) = t .1
+        high (inr t) = omega (arith, t .0)
+
+        low : Offset u d → d ≤ 127
+        low (inl t) = omega (arith, t .0)
+        low (inr t) = t .1
+
+update-are-bytes : (n : ℕ) → n ≤ 4 → (u : Update) → UpdateFields (u .comparison) (u .action) → ActionIn n (u .action) → AreBytes (update-bytes u)
+update-are-bytes n few u h k = go (u .comparison) (u .action) h k
+  where
+    go : (c : ℕ) (a : Action) → UpdateFields c a → ActionIn n a → AreBytes (action-bytes c a)
+    go c keep e k = (omega arith, (omega arith, (omega arith, (omega arith, (omega arith, tt)))))
+    go c (constant x) t k = (omega arith, (omega (arith, t .0), (omega arith, (omega (arith, t .1), (omega arith, tt)))))
+    go c (clock y u d) t k = (omega arith, (omega (arith, t .0), (omega arith, (omega arith, (omega arith, tt)))))
+
+-- an edge --------------------------------------------------------------------------------------------------------------------
+
+module _ (n L place : ℕ) (e : Edge) (I : EdgeIn n L e) (F : EdgeFields e) where
+  abbrev guards-part : List ℕ
+  guards-part = gather guard-bytes (e .guards)
+
+  abbrev updates-part : List ℕ
+  updates-part = gather update-bytes (e .updates)
+
+  abbrev body : List ℕ
+  body = guards-part ++ updates-part
+
+  abbrev count : ℕ
+  count = length (e .guards)
+
+  guards-length : length guards-part ≡ 3 * count
+  guards-length = length-parts guard-bytes 3 (λ g. refl) (e .guards)
+
+  body-length : 3 * count + 5 * n ≡ length body
+  body-length =
+      omega (arith, length-append guards-part updates-part, guards-length, length-parts update-bytes 5 update-wide (e .updates), I .updates-length)
+
+  guard-at : (d : Guard) (i : ℕ) → i < count → guard body (3 * i) ≡ getD (e .guards) i d
+  guard-at d i l = λ j. record { clock = byte (3 * i) 0 (omega arith) (omega arith) j; comparison = byte (3 * i + 1) 1 refl (omega arith) j; constant = byte (3 * i + 2) 2 refl (omega arith) j }
+    where
+      byte : (p k : ℕ) → p ≡ 3 * i + k → k < 3 → at body p ≡ at (guard-bytes (getD (e .guards) i d)) k
+      byte p k q h =
+          ap (at body) q
+          ∙ List·getD-append guards-part updates-part 0 (3 * i + k) (omega (arith, guards-length))
+          ∙ at-part guard-bytes 3 (λ g. refl) (e .guards) i k d l h
+
+  fields-at : (z : ℕ) → z < n → fields body (3 * count + 5 * z) ≡ fields-of (getD (e .updates) z idle)
+  fields-at z l = λ j. record {
+    kind = byte p 0 (omega arith) (omega arith) j;
+    comparison = byte (p + 1) 1 refl (omega arith) j;
+    y = byte (p + 2) 2 refl (omega arith) j;
+    offset = byte (p + 3) 3 refl (omega arith) j * 256 + byte (p + 3 + 1) 4 (omega arith) (omega arith) j;
+  }
+    where
+      p : ℕ
+      p = 3 * count + 5 * z
+
+      byte : (q k : ℕ) → q ≡ 3 * count + 5 * z + k → k < 5 → at body q ≡ at (update-bytes (getD (e .updates) z idle)) k
+      byte q k r h =
+          let s : q ≡ length guards-part + (5 * z + k) = omega (arith, guards-length) in
+          ap (at body) s
+          ∙ getD-append-add guards-part updates-part (5 * z + k) 0
+          ∙ at-part update-bytes 5 update-wide (e .updates) z k idle (omega (arith, I .updates-length)) h
+
+  guards-back : map (λ (i : ℕ). guard body (3 * i)) (from 0 count) ≡ e .guards
+  guards-back = map-from (λ (i : ℕ). guard body (3 * i)) none (e .guards) (guard-at none)
+    where
+      none : Guard
+      none = record { clock = 0; comparison = 0; constant = 0 }
+
+  abbrev read-fields : List Fields
+  read-fields = map (λ (z : ℕ). fields body (3 * count + 5 * z)) (from 0 n)
+
+  update-in : (z : ℕ) → z < n → Mem (getD (e .updates) z idle) (e .updates)
+  update-in z l = getD-in (e .updates) z idle (omega (arith, I .updates-length))
+
+  updates-back : map update read-fields ≡ e .updates
+  updates-back =
+      map-map update (λ (z : ℕ). fields body (3 * count + 5 * z)) (from 0 n)
+      ∙ rw (← I .updates-length) (map-from (λ (z : ℕ). update (fields body (3 * count + 5 * z))) idle (e .updates) (λ z l.
+      ap update (fields-at z (omega (arith, I .updates-length)))
+      ∙ update-back (getD (e .updates) z idle) (F .updates _ (getD-in (e .updates) z idle l))))
+
+  guards-range : every (guard-in-range n) (e .guards) ≡ true
+  guards-range =
+      every-law (guard-in-range n) (λ g. itself (guard-in-range n g)) (e .guards) .1 (λ g m.
+      rw (lt-ltb (g .clock) n (I .guards-in g m), le-leb (g .comparison) 4 (F .guards g m .comparison), le-leb (g .constant) 127 (F .guards g m .constant-low)))
+
+  fields-range : every (fields-in-range n) read-fields ≡ true
+  fields-range =
+      every-law (fields-in-range n) (λ x. itself (fields-in-range n x)) read-fields .1 (λ x m.
+      let (z, k, q) = map-out (λ (z : ℕ). fields body (3 * count + 5 * z)) (from 0 n) m in
+      let l : z < n = omega (arith, from-out 0 n z k) in
+      let u : Mem (getD (e .updates) z idle) (e .updates) = update-in z l in
+      rw (q ∙ fields-at z l) (update-range n (getD (e .updates) z idle) (F .updates _ u) (I .updates-in _ u)))
+
+  pub edge-are-bytes : n ≤ 4 → L ≤ 64 → AreBytes (edge-bytes e)
+  edge-are-bytes few less = (
+    omega arith,
+    (
+      omega arith,
+      (
+        omega (arith, I .source-in),
+        (
+          omega (arith, I .target-in),
+          (
+            omega (arith, F .few-guards),
+            bytes-append guards-part updates-part
+                (gather-bytes guard-bytes (e .guards) (λ g m.
+                (omega (arith, I .guards-in g m), (omega (arith, F .guards g m .comparison), (omega (arith, F .guards g m .constant-low), tt)))))
+                (gather-bytes update-bytes (e .updates) (λ u m. update-are-bytes n few u (F .updates u m) (I .updates-in u m))),
+          ),
+        ),
+      ),
+    ),
+  )
+
+  pub edge-back : (rest : List ℕ) → edge-record n L place (edge-bytes e ++ rest) ≡ good e rest
+  unfolding edge-record
+  edge-back rest =
+      goes _ _ head (body ++ rest) (record-back 1 place ED 5 head (body ++ rest) refl refl)
+      ∙ goes _ _ tt (body ++ rest) (passes 3 place (ltb (e .source) L) (body ++ rest) (lt-ltb (e .source) L (I .source-in)))
+      ∙ goes _ _ tt (body ++ rest) (passes 3 place (ltb (e .target) L) (body ++ rest) (lt-ltb (e .target) L (I .target-in)))
+      ∙ goes _ _ tt (body ++ rest) (passes 3 place (leb count 8) (body ++ rest) (le-leb count 8 (F .few-guards)))
+      ∙ goes _ _ body rest (bytes-back 1 place (3 * count + 5 * n) body rest body-length)
+      ∙ goes _ _ tt rest (passes 3 place _ rest (ap (every (guard-in-range n)) guards-back ∙ guards-range))
+      ∙ goes _ _ tt rest (passes 3 place (every (fields-in-range n) read-fields) rest fields-range)
+      ∙ (λ i. good (record { source = e .source; target = e .target; guards = guards-back i; updates = updates-back i }) rest)
+    where
+      head : List ℕ
+      head = ED ++ (e .source ∷ e .target ∷ count ∷ [])
