@@ -70,9 +70,11 @@ pub record EdgeFields (e : Edge) : Type 0 where
   pub guards : (g : Guard) → Mem g (e .guards) → GuardFields g
   pub updates : (u : Update) → Mem u (e .updates) → UpdateFields (u .comparison) (u .action)
 
--- the table keeps document 01's limits and bound rules, and the file is its file, of so many records: the header, "LO, L times", "ED, E times"
+-- the file is that of the table T, which keeps all of document 01's conditions, and has so many records: the header, "LO, L times", "ED, E times"
 pub record TableOf (T : Table) (file : List ℕ) (count : ℕ) : Type 0 where
+  -- n, L, E and the bounds are in range
   pub limits : Limits T
+  -- locations and clocks are among those of the table, each edge has one update for each clock, and the bound rules hold
   pub admitted : Admitted T
   pub fields : (e : Edge) → Mem e (T .edges) → EdgeFields e
   -- "flags; bit 0 is final, bit 1 is brief, the others are 0"

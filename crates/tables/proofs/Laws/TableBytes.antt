@@ -1,35 +1,34 @@
 -- A file is admitted just if it is the file of a table within document 01's limits, and that table is read from it. Assumes nothing.
-use Prim.Native.Nat.{ℕ, zero, suc, _+_, _*_, _/_, _%_, _≤_, _<_}
+use Prim.Native.Nat.{ℕ, zero, suc, _+_, _%_, _≤_, _<_}
 use native.Mathlib.Omega.{arith}
 use mathlib.Core.Path.{_≡_, refl, sym, ap, _∙_}
 use mathlib.Core.Bool.{Bool, true, false}
 use mathlib.Core.Logic.{_↔_}
-use mathlib.Core.List.{List, [], _∷_, _++_, map, List·Memᴰ·head, List·Memᴰ·tail}
-use lib.ListN.{length, getD, length-map, List·getD-map}
+use mathlib.Core.List.{List, [], _∷_, _++_, map, append-nil, List·Memᴰ·head, List·Memᴰ·tail, List·Memᴰ·not-nil}
+use lib.ListN.{length, getD, take, length-map, take-append-drop, drop-of-length-le, List·getD-map}
 use lib.Seq.{ext-getD}
-use lib.Dec.{leb, ltb, eqb}
-use borrow.Author.Tests.{le-leb, lt-ltb}
+use lib.Dec.{leb, eqb}
+use borrow.Author.Tests.{leb-true, le-leb, lt-ltb}
 use Rattle.regions.specs.Clocks.{at}
 use Rattle.regions.specs.Edge.{Guard, Action, keep, constant, clock, Edge, idle, BoundedBy, Bounded}
 use Rattle.regions.specs.Automaton.{Table, clocks, edge, blank, final, Admitted}
 use Rattle.regions.specs.Closed.{Mem}
 use Rattle.regions.specs.Rows.{gather}
-use Rattle.regions.specs.Checks.{every}
-use Rattle.regions.proofs.Laws.Tests.{Says, never, eqb-law, leb-law, and-law, allb-law}
+use Rattle.regions.proofs.Laws.Tests.{Says, eqb-law, leb-law, and-law, allb-law}
 use Rattle.regions.proofs.Laws.Members.{getD-in, in-getD}
 use Rattle.regions.proofs.Laws.Checks.{every-law}
 use Rattle.tables.specs.Bytes.{AreBytes, TA, LO, two, two-bytes}
 use Rattle.tables.specs.Answer.{accepted}
-use Rattle.tables.specs.Reading.{good, _>>=_, _>>_, end, records}
+use Rattle.tables.specs.Reading.{good, end, records}
 use Rattle.tables.specs.TableFile.{Header, header, location, edge-record, table-file}
-use Rattle.tables.specs.Admission.{guard-bounded, constant-bounded, clock-bounded, each-update, edges-bounded, admitted, admission, table-of}
+use Rattle.tables.specs.Admission.{guard-bounded, constant-bounded, clock-bounded, edges-bounded, admitted, record-count, admission, table-of}
 use Rattle.tables.specs.Meaning.{Limits}
 use Rattle.tables.specs.TableBytes.{location-bytes, edge-bytes, table-bytes, EdgeFields, TableOf}
-use Rattle.tables.proofs.Laws.Bytes.{bytes-append, are-bytes, gather-bytes}
-use Rattle.tables.proofs.Laws.Reading.{itself, between-law, goes, passes, bytes-back, record-back, records-back}
+use Rattle.tables.proofs.Laws.Bytes.{bytes-append, bytes-before, bytes-after, are-bytes, gather-bytes, byte-next, bytes-next, two-next}
+use Rattle.tables.proofs.Laws.Reading.{same-read, itself, between-law, cons-all, parts, tested, ended, took, took-record, each-record, records-bytes, goes, passes, bytes-back, record-back, records-back}
 use Rattle.tables.proofs.Laws.Tables.{ActionIn, EdgeIn}
-use Rattle.tables.proofs.Laws.Admission.{read-admission}
-use Rattle.tables.proofs.Laws.EdgeBytes.{edge-back, edge-are-bytes}
+use Rattle.tables.proofs.Laws.Admission.{read-limits, read-admitted, admission-read, read-admission}
+use Rattle.tables.proofs.Laws.EdgeBytes.{edge-back, edge-are-bytes, edge-read}
 
 -- from the table to the file -------------------------------------------------------------------------------------------------
 
@@ -86,7 +85,8 @@ bounds-pass : (c : List ℕ) (place : ℕ) (es : List Edge) (f : List ℕ) → (
 unfolding edges-bounded
 bounds-pass c place [] f B = refl
 bounds-pass c place (e ∷ es) f B =
-    goes _ _ tt f (passes 5 place _ f (and-law _ _ (every-law (guard-bounded c) (λ g. itself _) (e .guards)) (allb-law (length c) _ (λ z. itself _)) .1 (guards, λ z l. tests z l .0)))
+    goes _ _ tt f (passes 5 place _ f
+    (and-law _ _ (every-law (guard-bounded c) (λ g. itself _) (e .guards)) (allb-law (length c) _ (λ z. itself _)) .1 (guards, λ z l. tests z l .0)))
     ∙ goes _ _ tt f (passes 6 place _ f (allb-law (length c) _ (λ z. itself _) .1 (λ z l. tests z l .1)))
     ∙ bounds-pass c (place + 1) es f (λ x m. B x (List·Memᴰ·tail m))
   where
@@ -132,7 +132,8 @@ module _ (T : Table) (file : List ℕ) (k : ℕ) (O : TableOf T file k) where
   finals-are : map is-final flags′ ≡ T .finals
   finals-are =
       ext-getD false (map is-final flags′) (T .finals) (length-map flags′ is-final ∙ O .flags-length ∙ sym (O .limits .finals-length)) (λ l h.
-      List·getD-map is-final flags′ l 0 ∙ same-test (is-final (at flags′ l)) (final T l) (eqb-law (at flags′ l % 2) 1) (O .flags-final l (omega (arith, length-map flags′ is-final, O .flags-length))))
+      List·getD-map is-final flags′ l 0
+      ∙ same-test (is-final (at flags′ l)) (final T l) (eqb-law (at flags′ l % 2) 1) (O .flags-final l (omega (arith, length-map flags′ is-final, O .flags-length))))
     where
       same-test : {P : Type 0} (a b : Bool) → Says a P → Says b P → a ≡ b
       same-test true b s t = sym (t .1 (s .0 refl))
@@ -196,3 +197,125 @@ module _ (T : Table) (file : List ℕ) (k : ℕ) (O : TableOf T file k) where
 -- the file of a table within the limits is bytes, is accepted with its count of records, and has that very table
 pub table-accepts : (file : List ℕ) (k : ℕ) (T : Table) → TableOf T file k → AreBytes file × (admission file ≡ accepted k) × (table-of file ≡ T)
 table-accepts file k T O = let (p, q) = accepted-back T file k O in (file-are-bytes T file k O, p, q)
+
+-- from the file to the table -------------------------------------------------------------------------------------------------
+
+header-read : (f : List ℕ) (h : Header) (left : List ℕ) → header f ≡ good h left → AreBytes f
+    → f ≡ TA ++ (length (h .bounds) ∷ h .locations ∷ h .initial ∷ (two-bytes (h .edges) ++ (h .bounds ++ left)))
+unfolding header
+header-read f h left e p =
+    parts _ _ e λ b f1 e1 h1.
+    tested _ _ _ _ _ h1 λ t2 h2.
+    tested _ _ _ _ _ h2 λ t3 h3.
+    tested _ _ _ _ _ h3 λ t4 h4.
+    tested _ _ _ _ _ h4 λ t5 h5.
+    parts _ _ h5 λ c f6 e6 h6.
+    tested _ _ _ _ _ h6 λ t7 h7.
+    let (x, y) = same-read h7 in
+    let (k, m) = took-record 1 0 TA 7 f e1 in
+    let K = took 1 0 (at b 2) f1 e6 in
+    rw (← x, ← y) (
+    k .whole
+    ∙ (λ i. head b (bytes-before b f1 (rw (k .whole) at p)) m (k .sized) i ++ K .whole i)
+    ∙ (λ i. TA ++ (sym (K .sized) i ∷ at b 3 ∷ at b 4 ∷ (two-bytes (two b 5) ++ (c ++ f6)))))
+  where
+    head : (b : List ℕ) → AreBytes b → TA ≡ take 2 b → length b ≡ 7 → b ≡ TA ++ (at b 2 ∷ at b 3 ∷ at b 4 ∷ two-bytes (two b 5))
+    head b p m l =
+        sym (take-append-drop 2 b)
+        ∙ (λ i. sym m i ++ bytes-next b 2 3 (omega arith) i)
+        ∙ (λ i. TA ++ (at b 2 ∷ at b 3 ∷ at b 4 ∷ two-next b p 5 (omega arith) i))
+        ∙ (λ i. TA ++ (at b 2 ∷ at b 3 ∷ at b 4 ∷ (two-bytes (two b 5) ++ drop-of-length-le b {i = 7} (omega arith) i)))
+
+record LocationsOf (n : ℕ) (f : List ℕ) (finals : List Bool) (left : List ℕ) : Type 0 where
+  flags : List ℕ
+  sized : length flags ≡ n
+  low : (x : ℕ) → Mem x flags → x ≤ 3
+  finals-are : map is-final flags ≡ finals
+  whole : f ≡ gather location-bytes flags ++ left
+
+location-read : (place : ℕ) (f : List ℕ) (t : Bool) (left : List ℕ) → location place f ≡ good t left
+    → (x : ℕ) × (x ≤ 3) × (is-final x ≡ t) × (f ≡ location-bytes x ++ left)
+unfolding location
+location-read place f t left h =
+    parts _ _ h λ b f1 e1 h1.
+    tested _ _ _ _ _ h1 λ t2 h2.
+    let (x, y) = same-read h2 in
+    let (k, m) = took-record 1 place LO 3 f e1 in
+    (at b 2, leb-true (at b 2) 3 t2, x, k .whole ∙ (λ i. head b m (k .sized) i ++ y i))
+  where
+    head : (b : List ℕ) → LO ≡ take 2 b → length b ≡ 3 → b ≡ location-bytes (at b 2)
+    head b m l =
+        sym (take-append-drop 2 b)
+        ∙ (λ i. sym m i ++ byte-next b 2 (omega arith) i)
+        ∙ (λ i. LO ++ (at b 2 ∷ drop-of-length-le b {i = 3} (omega arith) i))
+
+locations-read : (place n : ℕ) (f : List ℕ) (finals : List Bool) (left : List ℕ) → records location place n f ≡ good finals left → LocationsOf n f finals left
+unfolding records
+locations-read place zero f finals left h =
+    let (x, y) = same-read h in
+    record { flags = []; sized = refl; low = λ x m. absurd (List·Memᴰ·not-nil m); finals-are = x; whole = y }
+locations-read place (suc n) f finals left h =
+    parts _ _ h λ t f1 e1 h1.
+    parts _ _ h1 λ more f2 e2 h2.
+    let (x, y) = same-read h2 in
+    let (w, l, t-is, one) = location-read place f t f1 e1 in
+    let others = locations-read (place + 1) n f1 more f2 e2 in
+    record {
+      flags = w ∷ others .flags;
+      sized = ap suc (others .sized);
+      low = cons-all (λ (x : ℕ). x ≤ 3) l (others .low);
+      finals-are = (λ i. t-is i ∷ others .finals-are i) ∙ x;
+      whole = one ∙ (λ i. location-bytes w ++ others .whole i) ∙ (λ i. location-bytes w ++ (gather location-bytes (others .flags) ++ y i));
+    }
+
+final-bit : (flags : List ℕ) (finals : List Bool) → map is-final flags ≡ finals → (l : ℕ) → Says (getD finals l false) (at flags l % 2 ≡ 1)
+final-bit flags finals e l = rw (← e, List·getD-map is-final flags l 0) (eqb-law (at flags l % 2) 1)
+
+table-read : (file : List ℕ) (T : Table) (left : List ℕ) → AreBytes file → table-file file ≡ good T left → Limits T → Admitted T
+    → TableOf T file (1 + T .locations + length (T .edges))
+unfolding table-file
+table-read file T left p h =
+    parts _ _ h λ hd f1 e1 h1.
+    parts _ _ h1 λ finals f2 e2 h2.
+    parts _ _ h2 λ edges f3 e3 h3.
+    parts _ _ h3 λ u f4 e4 h4.
+    let n : ℕ = length (hd .bounds) in
+    let L : ℕ = hd .locations in
+    let head = header-read file hd f1 e1 p in
+    let q : AreBytes (hd .bounds ++ f1) = (rw head at p) .1 .1 .1 .1 .1 .1 .1 in
+    let S = locations-read 1 L f1 finals f2 e2 in
+    let r : AreBytes (gather location-bytes (S .flags) ++ f2) = rw (S .whole) at (bytes-after (hd .bounds) f1 q) in
+    let (many, fields) = each-record (edge-record n L) EdgeFields (λ place f e l k. edge-read n L place f e l k .0) (1 + L) (hd .edges) f2 edges f3 e3 in
+    let whole : f2 ≡ gather edge-bytes edges ++ f3 =
+    records-bytes (edge-record n L) edge-bytes (λ place f e l b k. edge-read n L place f e l k .1 b) (1 + L) (hd .edges) f2 edges f3
+    (bytes-after (gather location-bytes (S .flags)) f2 r) e3 in
+    let front : List ℕ → List ℕ =
+    λ rest. TA ++ (n ∷ L ∷ hd .initial ∷ (two-bytes (length edges) ++ (hd .bounds ++ (gather location-bytes (S .flags) ++ rest)))) in
+    rw (← same-read h4 .0) (λ M A. record {
+      limits = M;
+      admitted = A;
+      fields = fields;
+      flags = S .flags;
+      flags-length = S .sized;
+      flags-low = λ l k. S .low _ (getD-in (S .flags) l 0 (omega (arith, S .sized)));
+      flags-final = λ l k. final-bit (S .flags) finals (S .finals-are) l;
+      bytes =
+          head
+          ∙ (λ i. TA ++ (n ∷ L ∷ hd .initial ∷ (two-bytes (sym many i) ++ (hd .bounds ++ S .whole i))))
+          ∙ ap front (whole ∙ (λ i. gather edge-bytes edges ++ ended 4 (1 + L + hd .edges) f3 e4 i) ∙ append-nil (gather edge-bytes edges));
+      counted = refl;
+    })
+
+read-back : (file : List ℕ) (T : Table) (left : List ℕ) → AreBytes file → admitted file ≡ good T left → TableOf T file (record-count T)
+unfolding admitted
+read-back file T left p h =
+    parts _ _ h λ T′ f1 e1 h1.
+    parts _ _ h1 λ u f2 e2 h2.
+    table-read file T f1 p (e1 ∙ ap (λ (x : Table). good x f1) (same-read h2 .0)) (read-limits file T left h) (read-admitted file T left h)
+
+-- a file of bytes is accepted with k and has the table T just if it is the file of that table, within document 01's limits, of k records
+pub table-law : (file : List ℕ) (k : ℕ) (T : Table) → AreBytes file → ((admission file ≡ accepted k) × (table-of file ≡ T)) ↔ TableOf T file k
+table-law file k T p = (λ t. to (t .0) (t .1), λ O. accepted-back T file k O)
+  where
+    to : admission file ≡ accepted k → table-of file ≡ T → TableOf T file k
+    to h e = let (rest, a, n) = admission-read file k h in rw (← e, ← n) (read-back file (table-of file) rest p a)
