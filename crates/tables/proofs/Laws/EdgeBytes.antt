@@ -21,9 +21,9 @@ use Rattle.regions.proofs.Laws.Checks.{every-law}
 use Rattle.tables.specs.Bytes.{AreBytes, ED, two, two-bytes, up, down}
 use Rattle.tables.specs.Reading.{good}
 use Rattle.tables.specs.TableFile.{guard, guard-in-range, Fields, fields, fields-in-range, update, edge-record}
-use Rattle.tables.specs.TableBytes.{guard-bytes, offset-bytes, action-bytes, update-bytes, edge-bytes, GuardFields, Offset, UpdateFields, EdgeFields}
+use Rattle.tables.specs.TableBytes.{guard-bytes, offset-bytes, action-bytes, update-bytes, edge-bytes, Offset, UpdateFields, EdgeFields}
 use Rattle.tables.proofs.Laws.Bytes.{bytes-append, bytes-before, bytes-after, gather-bytes, bytes-next, two-next, two-small}
-use Rattle.tables.proofs.Laws.Reading.{same-read, itself, parts, tested, took, took-record, goes, passes, bytes-back, record-back}
+use Rattle.tables.proofs.Laws.Reading.{same-read, parts, tested, took, took-record, goes, passes, bytes-back, record-back}
 use Rattle.tables.proofs.Laws.Tables.{length-from, ActionIn, EdgeIn}
 
 -- parts of one width, one after the other ------------------------------------------------------------------------------------
@@ -72,7 +72,24 @@ offset-back u d o = let e : two (offset-bytes u d) 0 ≡ (65536 + u - d) % 65536
     go (inr (e, l)) (yes q) = let s = signed-down w (omega arith) in (s .0 ∙ sym e, s .1 ∙ omega arith)
     go (inr (e, l)) (no q) = let s = signed-up w (omega arith) in (s .0 ∙ omega arith, s .1 ∙ omega arith)
 
--- updates --------------------------------------------------------------------------------------------------------------------
+-- guards and updates ---------------------------------------------------------------------------------------------------------
+
+-- what the tests of a guard's and of an update's fields say
+guard-law : (n : ℕ) (g : Guard) → Says (guard-in-range n g) (((g .clock < n) × (g .comparison ≤ 4)) × (g .constant ≤ 127))
+guard-law n g = and-law _ _ (and-law _ _ (ltb-law (g .clock) n) (leb-law (g .comparison) 4)) (leb-law (g .constant) 127)
+
+abbrev FieldsIn : ℕ → Fields → Type 0
+FieldsIn n x =
+    (((((x .kind ≡ 0) × (x .comparison ≡ 0)) × (x .y ≡ 0)) × (x .offset ≡ 0)) ⊎ ((((x .kind ≡ 1) × (x .comparison ≤ 4)) × (x .y ≡ 0)) × (x .offset ≤ 127)))
+    ⊎ (((((x .kind ≡ 2) × (x .comparison ≤ 4)) × (x .y < n)) × (up (x .offset) ≤ 127)) × (down (x .offset) ≤ 127))
+
+fields-law : (n : ℕ) (x : Fields) → Says (fields-in-range n x) (FieldsIn n x)
+fields-law n x =
+    or-law _ _
+    (or-law _ _ (and-law _ _ (and-law _ _ (and-law _ _ (eqb-law (x .kind) 0) (eqb-law (x .comparison) 0)) (eqb-law (x .y) 0)) (eqb-law (x .offset) 0))
+    (and-law _ _ (and-law _ _ (and-law _ _ (eqb-law (x .kind) 1) (leb-law (x .comparison) 4)) (eqb-law (x .y) 0)) (leb-law (x .offset) 127)))
+    (and-law _ _ (and-law _ _ (and-law _ _ (and-law _ _ (eqb-law (x .kind) 2) (leb-law (x .comparison) 4)) (ltb-law (x .y) n)) (leb-law (up (x .offset)) 127))
+    (leb-law (down (x .offset)) 127))
 
 update-wide : (u : Update) → length (update-bytes u) ≡ 5
 update-wide u = go (u .action)
@@ -94,21 +111,17 @@ update-back u h = go (u .comparison) (u .action) h
     go c (constant k) t = let e : two (two-bytes k) 0 ≡ k = omega arith in λ i. record { action = constant (e i); comparison = c }
     go c (clock y u d) (l, o) = let (p, q) = offset-back u d o in λ i. record { action = clock y (p i) (q i); comparison = c }
 
-update-range : (n : ℕ) (u : Update) → UpdateFields (u .comparison) (u .action) → ActionIn n (u .action) → fields-in-range n (fields-of u) ≡ true
+update-range : (n : ℕ) (u : Update) → UpdateFields (u .comparison) (u .action) → ActionIn n (u .action) → FieldsIn n (fields-of u)
 update-range n u h k = go (u .comparison) (u .action) h k
   where
-    go : (c : ℕ) (a : Action) → UpdateFields c a → ActionIn n a → fields-in-range n (fields-of (record { action = a; comparison = c })) ≡ true
-    go c keep e k = refl
-    go c (constant x) (l, m) k = let e : two (two-bytes x) 0 ≡ x = omega arith in rw (e, le-leb c 4 l, le-leb x 127 m)
-    go c (clock y u d) (l, o) k = let (p, q) = offset-back u d o in rw (p, q, le-leb c 4 l, lt-ltb y n k, le-leb u 127 (high o), le-leb d 127 (low o))
+    go : (c : ℕ) (a : Action) → UpdateFields c a → ActionIn n a → FieldsIn n (fields-of (record { action = a; comparison = c }))
+    go c keep e k = inl (inl (((refl, refl), refl), refl))
+    go c (constant x) (l, m) k = inl (inr (((refl, l), refl), omega arith))
+    go c (clock y u d) (l, o) k = let (p, q) = offset-back u d o in let (h, h′) = within o in inr ((((refl, l), k), rw p h), rw q h′)
       where
-        high : Offset u d → u ≤ 127
-        high (inl t) = t .1
-        high (inr t) = omega (arith, t .0)
-
-        low : Offset u d → d ≤ 127
-        low (inl t) = omega (arith, t .0)
-        low (inr t) = t .1
+        within : Offset u d → (u ≤ 127) × (d ≤ 127)
+        within (inl t) = (t .1, omega (arith, t .0))
+        within (inr t) = (omega (arith, t .0), t .1)
 
 update-are-bytes : (n : ℕ) → n ≤ 4 → (u : Update) → UpdateFields (u .comparison) (u .action) → ActionIn n (u .action) → AreBytes (update-bytes u)
 update-are-bytes n few u h k = go (u .comparison) (u .action) h k
@@ -192,12 +205,12 @@ module _ (n L place : ℕ) (e : Edge) (I : EdgeIn n L e) (F : EdgeFields e) wher
 
   guards-range : every (guard-in-range n) (e .guards) ≡ true
   guards-range =
-      every-law (guard-in-range n) (λ g. itself (guard-in-range n g)) (e .guards) .1 (λ g m.
-      rw (lt-ltb (g .clock) n (I .guards-in g m), le-leb (g .comparison) 4 (F .guards g m .comparison), le-leb (g .constant) 127 (F .guards g m .constant-low)))
+      every-law (guard-in-range n) (guard-law n) (e .guards) .1 (λ g m.
+      ((I .guards-in g m, F .guards g m .comparison), F .guards g m .constant-low))
 
   fields-range : every (fields-in-range n) read-fields ≡ true
   fields-range =
-      every-law (fields-in-range n) (λ x. itself (fields-in-range n x)) read-fields .1 (λ x m.
+      every-law (fields-in-range n) (fields-law n) read-fields .1 (λ x m.
       let (z, k, q) = map-out (λ (z : ℕ). fields body (3 * count + 5 * z)) (from 0 n) m in
       let l : z < n = omega (arith, from-out 0 n z k) in
       let u : Mem (getD (e .updates) z idle) (e .updates) = update-in z l in
@@ -264,20 +277,6 @@ five-next b q p h =
     ∙ (λ i. at b p ∷ at b (p + 1) ∷ at b (p + 2) ∷ two-next b q (p + 3) (omega arith) i)
     ∙ (let e : p + 3 + 2 ≡ p + 5 = omega arith in λ i. at b p ∷ at b (p + 1) ∷ at b (p + 2) ∷ (two-bytes (two b (p + 3)) ++ drop (e i) b))
 
--- what the test of an update's fields says
-abbrev FieldsIn : ℕ → Fields → Type 0
-FieldsIn n x =
-    (((((x .kind ≡ 0) × (x .comparison ≡ 0)) × (x .y ≡ 0)) × (x .offset ≡ 0)) ⊎ ((((x .kind ≡ 1) × (x .comparison ≤ 4)) × (x .y ≡ 0)) × (x .offset ≤ 127)))
-    ⊎ (((((x .kind ≡ 2) × (x .comparison ≤ 4)) × (x .y < n)) × (up (x .offset) ≤ 127)) × (down (x .offset) ≤ 127))
-
-fields-law : (n : ℕ) (x : Fields) → Says (fields-in-range n x) (FieldsIn n x)
-fields-law n x =
-    or-law _ _
-    (or-law _ _ (and-law _ _ (and-law _ _ (and-law _ _ (eqb-law (x .kind) 0) (eqb-law (x .comparison) 0)) (eqb-law (x .y) 0)) (eqb-law (x .offset) 0))
-    (and-law _ _ (and-law _ _ (and-law _ _ (eqb-law (x .kind) 1) (leb-law (x .comparison) 4)) (eqb-law (x .y) 0)) (leb-law (x .offset) 127)))
-    (and-law _ _ (and-law _ _ (and-law _ _ (and-law _ _ (eqb-law (x .kind) 2) (leb-law (x .comparison) 4)) (ltb-law (x .y) n)) (leb-law (up (x .offset)) 127))
-    (leb-law (down (x .offset)) 127))
-
 -- what the bytes of its update are
 update-whole : (n : ℕ) (x : Fields) → FieldsIn n x → x .offset < 65536 → update-bytes (update x) ≡ x .kind ∷ x .comparison ∷ x .y ∷ two-bytes (x .offset)
 update-whole n x (inl (inl (((k, c), y), o))) l = rw (k, c, y, o)
@@ -296,11 +295,6 @@ update-fields n x (inr ((((k, c), y), o), o′)) = rw k (c, go (decLt (x .offset
     go : Dec (x .offset < 32768) → Offset (up (x .offset)) (down (x .offset))
     go (yes h) = inl (signed-up (x .offset) h .1, o)
     go (no h) = inr (signed-down (x .offset) (omega arith) .0, o′)
-
-guard-fields : (n : ℕ) (g : Guard) → guard-in-range n g ≡ true → GuardFields g
-guard-fields n g h =
-    let t = and-law _ _ (and-law _ _ (ltb-law (g .clock) n) (leb-law (g .comparison) 4)) (leb-law (g .constant) 127) .0 h in
-    record { comparison = t .0 .1; constant-low = t .1 }
 
 -- guards and updates in the bytes after the guard count
 module _ (n count : ℕ) (d : List ℕ) (sized : length d ≡ 3 * count + 5 * n) where
@@ -357,7 +351,7 @@ edge-read n L place f e left h0 =
     rw (← x, ← y) (
       record {
         few-guards = omega (arith, leb-true (at b 4) 8 t4);
-        guards = λ g i. guard-fields n g (every-law (guard-in-range n) (λ g. itself (guard-in-range n g)) _ .0 t6 g i);
+        guards = λ g i. let t = every-law (guard-in-range n) (guard-law n) _ .0 t6 g i in record { comparison = t .0 .1; constant-low = t .1 };
         updates = λ u i.
             let (w, j, q) = map-out update (fields-in n (at b 4) d (K .sized)) i in
             rw q (update-fields n w (every-law (fields-in-range n) (fields-law n) (fields-in n (at b 4) d (K .sized)) .0 t7 w j));
