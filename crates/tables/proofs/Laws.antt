@@ -6,3 +6,5 @@ pub mod Records
 -- tables
 pub mod Tables
 pub mod Admission
+pub mod EdgeBytes
+pub mod TableBytes

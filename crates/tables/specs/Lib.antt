@@ -6,4 +6,5 @@ pub mod Records
 pub mod TableFile
 pub mod Admission
 pub mod Meaning
+pub mod TableBytes
 pub mod Values

@@ -21,8 +21,10 @@ use Rattle.checker.specs.RegionFile.{rows-of, row-bytes, rows-bytes, lis
 use Rattle.checker.specs.Program.{Printed}
 use Rattle.checker.specs.Follow.{followed, follow-answer, follow-buffer}
 use Rattle.tables.specs.Meaning.{Passes, Limits}
+use Rattle.tables.specs.TableBytes.{TableOf}
 use Rattle.checker.specs.Meaning.{Small, Reaches, RunListOf, RegionListOf, Lacks, Follows, Written}
 use Rattle.tables.proofs.Laws.Admission
+use Rattle.tables.proofs.Laws.TableBytes
 use Rattle.checker.proofs.Laws.Rows
 use Rattle.checker.proofs.Laws.RegionLists
 use Rattle.checker.proofs.Laws.Runs
@@ -80,6 +82,14 @@ admission-admitted = Admission.admission-admitted
 
 pub admission-limits : (table : List ℕ) (k : ℕ) → admission table ≡ accepted k → Limits (table-of table)
 admission-limits = Admission.admission-limits
+
+-- a file is admitted with k, and T is its table, just if it is T's file, T keeps all of document 01's conditions, and the records are k
+pub table-law : (file : List ℕ) (k : ℕ) (T : Table) → AreBytes file → ((admission file ≡ accepted k) × (table-of file ≡ T)) ↔ TableOf T file k
+table-law = TableBytes.table-law
+
+-- and every such file is bytes
+pub table-accepts : (file : List ℕ) (k : ℕ) (T : Table) → TableOf T file k → AreBytes file × (admission file ≡ accepted k) × (table-of file ≡ T)
+table-accepts = TableBytes.table-accepts
 
 -- "a run list is accepted exactly when it is a run of the table .. that ends in a final location"
 pub run-law : (table file : List ℕ) (k : ℕ) → AreBytes file → (run-answer table file ≡ accepted k) ↔ (Passes table × RunListOf (table-of table) file k)

@@ -76,7 +76,7 @@ module _ (b : List ℕ) (p : AreBytes b) where
       last : k + 1 + 1 ≡ k + 2
       last = omega arith
 
-  two-small : (k : ℕ) → two b k < 65536
+  pub two-small : (k : ℕ) → two b k < 65536
   two-small k = omega (arith, byte-at b p k, byte-at b p (k + 1))
 
   -- a number of four bytes

@@ -24,6 +24,10 @@ use Rattle.tables.proofs.Laws.Bytes.{bytes-after}
 pub not-good : {A X : Type 0} {number place : ℕ} {a : A} {rest : List ℕ} → bad number place ≡ good a rest → X
 not-good e = let z : _≡_ {A = ℕ} 0 1 = cc in absurd (omega arith)
 
+-- what is read, and the bytes left, are one
+pub same-read : {A : Type 0} {a b : A} {left rest : List ℕ} → good a left ≡ good b rest → (a ≡ b) × (left ≡ rest)
+same-read e = (cc, cc)
+
 pub not-refused : {X : Type 0} {number place count : ℕ} → refused number place ≡ accepted count → X
 not-refused e = let z : _≡_ {A = ℕ} 0 1 = cc in absurd (omega arith)
 
@@ -134,7 +138,7 @@ pub passes : (number place : ℕ) (t : Bool) (file : List ℕ) → t ≡ true �
 unfolding require
 passes number place t file e = rw e
 
-bytes-back : (number place n : ℕ) (a b : List ℕ) → n ≡ length a → next-bytes number place n (a ++ b) ≡ good a b
+pub bytes-back : (number place n : ℕ) (a b : List ℕ) → n ≡ length a → next-bytes number place n (a ++ b) ≡ good a b
 unfolding next-bytes
 bytes-back number place n a b e =
     rw (e, le-leb (length a) (length (a ++ b)) (simp length-append (omega arith)), take-append-seam a b, drop-append-seam a b)

@@ -1,5 +1,5 @@
 -- What is known of a table that was read. Assumes nothing.
-use Prim.Native.Nat.{ℕ, zero, suc, _+_, _*_, _≤_, _<_}
+use Prim.Native.Nat.{ℕ, zero, suc, _+_, _≤_, _<_}
 use native.Mathlib.Omega.{arith}
 use mathlib.Core.Path.{_≡_, refl, sym, ap, _∙_}
 use mathlib.Core.Bool.{Bool, true}
@@ -12,14 +12,14 @@ use Rattle.regions.specs.Edge.{Guard, Action, keep, constant, clock, Update, Ed
 use Rattle.regions.specs.Automaton.{Table, clocks}
 use Rattle.regions.specs.Closed.{Mem}
 use Rattle.regions.specs.Rows.{from}
+use Rattle.regions.specs.Checks.{every}
 use Rattle.regions.proofs.Laws.Tests.{eqb-law, leb-law, ltb-law, and-law, or-law}
 use Rattle.regions.proofs.Laws.Members.{getD-in, map-out}
 use Rattle.regions.proofs.Laws.Checks.{every-law}
-use Rattle.tables.specs.Bytes.{two}
 use Rattle.tables.specs.Reading.{good, _>>=_}
-use Rattle.tables.specs.TableFile.{Header, header, location, guard, guard-in-range, Fields, fields, fields-in-range, update, edge-record, table-file}
+use Rattle.tables.specs.TableFile.{Header, header, location, guard-in-range, Fields, fields-in-range, update, edge-record, table-file}
 use Rattle.tables.specs.Meaning.{Limits}
-use Rattle.tables.proofs.Laws.Reading.{itself, parts, tested, between-law, took, each-record}
+use Rattle.tables.proofs.Laws.Reading.{same-read, itself, parts, tested, between-law, took, each-record}
 
 -- the header -----------------------------------------------------------------------------------------------------------------
 
@@ -42,22 +42,17 @@ header-in f h left e =
     tested _ _ _ _ _ h4 λ t5 h5.
     parts _ _ h5 λ c f6 e6 h6.
     tested _ _ _ _ _ h6 λ t7 h7.
-    let L : at b 3 ≡ h .locations = cc in
-    let i : at b 4 ≡ h .initial = cc in
-    let E : two b 5 ≡ h .edges = cc in
-    let cs : c ≡ h .bounds = cc in
-    let n : length (h .bounds) ≡ at b 2 = ap length (sym cs) ∙ took 1 0 (at b 2) f1 e6 .sized in
-    let (p, p′) = between-law 1 4 (at b 2) .0 t2 in
-    let (q, q′) = between-law 1 64 (at b 3) .0 t3 in
-    record {
-      clocks-low = omega arith;
-      clocks-high = omega arith;
-      locations-low = omega arith;
-      locations-high = omega arith;
-      initial-in = omega (arith, ltb-true (at b 4) (at b 3) t4);
-      edges-high = omega (arith, leb-true (two b 5) 256 t5);
-      bounds-high = λ z l. every-law _ (λ x. leb-law x 127) (h .bounds) .0 (rw cs at t7) _ (getD-in (h .bounds) z 0 l);
-    }
+    let (n, n′) = between-law 1 4 (length c) .0 (rw (← took 1 0 _ f1 e6 .sized) at t2) in
+    let (L, L′) = between-law 1 64 _ .0 t3 in
+    rw (← same-read h7 .0) (record {
+      clocks-low = n;
+      clocks-high = n′;
+      locations-low = L;
+      locations-high = L′;
+      initial-in = ltb-true _ _ t4;
+      edges-high = leb-true _ 256 t5;
+      bounds-high = λ z l. every-law _ (λ x. leb-law x 127) c .0 t7 _ (getD-in c z 0 l);
+    })
 
 -- edges ----------------------------------------------------------------------------------------------------------------------
 
@@ -96,6 +91,12 @@ pub record EdgeIn (n L : ℕ) (e : Edge) : Type 0 where
   pub updates-length : length (e .updates) ≡ n
   pub updates-in : (u : Update) → Mem u (e .updates) → ActionIn n (u .action)
 
+updates-in : (n : ℕ) (F : ℕ → Fields) (zs : List ℕ) → every (fields-in-range n) (map F zs) ≡ true
+    → (u : Update) → Mem u (map update (map F zs)) → ActionIn n (u .action)
+updates-in n F zs t u m =
+    let (x, k, q) = map-out update {b = u} (map F zs) m in
+    rw q (update-in n x (every-law (fields-in-range n) (λ w. itself (fields-in-range n w)) (map F zs) .0 t x k))
+
 edge-in : (n L place : ℕ) (f : List ℕ) (e : Edge) (left : List ℕ) → edge-record n L place f ≡ good e left → EdgeIn n L e
 unfolding edge-record
 edge-in n L place f e left h0 =
@@ -106,20 +107,13 @@ edge-in n L place f e left h0 =
     parts _ _ h4 λ d f5 e5 h5.
     tested _ _ _ _ _ h5 λ t6 h6.
     tested _ _ _ _ _ h6 λ t7 h7.
-    let g : map (λ (i : ℕ). guard d (3 * i)) (from 0 (at b 4)) ≡ e .guards = cc in
-    let fs : List Fields = map (λ (z : ℕ). fields d (3 * at b 4 + 5 * z)) (from 0 n) in
-    let u : map update fs ≡ e .updates = cc in
-    let s : at b 2 ≡ e .source = cc in
-    let t : at b 3 ≡ e .target = cc in
-    record {
-      source-in = omega (arith, ltb-true (at b 2) L t2);
-      target-in = omega (arith, ltb-true (at b 3) L t3);
-      guards-in = λ x m. guard-clock n x (every-law (guard-in-range n) (λ y. itself (guard-in-range n y)) (e .guards) .0 (rw g at t6) x m);
-      updates-length = rw (← u) (simp (length-map, length-from));
-      updates-in = λ x m.
-          let (y, k, q) = map-out update {b = x} fs (rw u m) in
-          rw q (update-in n y (every-law (fields-in-range n) (λ w. itself (fields-in-range n w)) fs .0 t7 y k));
-    }
+    rw (← same-read h7 .0) (record {
+      source-in = ltb-true _ L t2;
+      target-in = ltb-true _ L t3;
+      guards-in = λ x m. guard-clock n x (every-law (guard-in-range n) (λ y. itself (guard-in-range n y)) _ .0 t6 x m);
+      updates-length = simp (length-map, length-from);
+      updates-in = updates-in n _ (from 0 n) t7;
+    })
 
 -- the table ------------------------------------------------------------------------------------------------------------------
 
