@@ -3,12 +3,13 @@ use Prim.Native.Nat.{ℕ, zero, suc, _+_, _≤_, _<_}
 use native.Mathlib.Decide.{ℕ-discrete}
 use native.Mathlib.Numerals.{add-one}
 use native.Mathlib.Omega.{arith}
-use mathlib.Core.Path.{_≡_, refl}
+use native.Mathlib.Nat.{le-of-suc-le-suc}
+use mathlib.Core.Path.{_≡_, refl, sym, ap, _∙_}
 use mathlib.Core.Bool.{Bool, true, false, _&&_, _||_}
-use mathlib.Core.List.{List}
-use lib.ListN.{length, take}
+use mathlib.Core.List.{List, [], _∷_, map}
+use lib.ListN.{length, getD, take, drop, length-map}
 use lib.Dec.{eqb}
-use lib.Seq.{getD-take, length-take-le}
+use lib.Seq.{drop-nil, getD-take, length-take-le}
 use Rattle.regions.specs.Clocks.{at, allb, someb}
 
 -- the first n clocks ------------------------------------------------------------------------------------------------------------------
@@ -20,6 +21,32 @@ at-take n xs z h = getD-take n xs z 0 h
 -- n clocks of four
 pub length-first : {A : Type 0} (n : ℕ) (xs : List A) → n ≤ 4 → length xs ≡ 4 → length (take n xs) ≡ n
 length-first n xs h e = length-take-le n xs (omega arith)
+
+-- nothing is left past the end
+pub drop-out : {A : Type 0} (i : ℕ) (xs : List A) → length xs ≤ i → drop i xs ≡ []
+drop-out i [] h = drop-nil i
+drop-out zero (x ∷ xs) h = absurd (omega arith)
+drop-out (suc i) (x ∷ xs) h = drop-out i xs (omega arith)
+
+-- an element of a list of values, each as what it stands for
+getD-map : {A B : Type 0} (f : A → B) (xs : List A) (i : ℕ) (d : A) (e : B) → i < length xs → getD (map f xs) i e ≡ f (getD xs i d)
+getD-map f [] i d e h = absurd (omega arith)
+getD-map f (x ∷ xs) zero d e h = refl
+getD-map f (x ∷ xs) (suc i) d e h = getD-map f xs i d e (le-of-suc-le-suc h)
+
+-- an array of structs is known to be as long as that of what they are in memory
+pub length-under : (A B : Type 0) (f : A → B) (xs : List A) (n : ℕ) → length (map f xs) ≡ n → length xs ≡ n
+length-under A B f xs n e = sym (length-map xs f) ∙ e
+
+-- the first m of an array, each as what it stands for
+module _ {A B : Type 0} (f : A → B) (m : ℕ) (xs : List A) where
+  -- there are m
+  pub length-mapped : m ≤ length xs → length (map f (take m xs)) ≡ m
+  length-mapped h = length-map (take m xs) f ∙ length-take-le m xs h
+
+  -- each is that of the array
+  pub getD-mapped : (i : ℕ) (d : A) (e : B) → m ≤ length xs → i < m → getD (map f (take m xs)) i e ≡ f (getD xs i d)
+  getD-mapped i d e h l = getD-map f (take m xs) i d e (rw (length-take-le m xs h) l) ∙ ap f (getD-take m xs i d l)
 
 -- a clock's number is k
 abbrev pub at-is : List ℕ → ℕ → ℕ → Bool
