@@ -13,3 +13,4 @@ pub mod Successors
 pub mod Checks
 pub mod Walk
 pub mod Values
+pub mod Order

@@ -3,3 +3,4 @@ pub mod comparison; // the table of comparisons
 pub mod region; // a region, the clocks' bounds
 pub mod edge; // guards, updates, edges
 pub mod guard; // guards in a region
+pub mod order; // the order of regions

@@ -22,6 +22,12 @@ at-take n xs z h = getD-take n xs z 0 h
 pub length-first : {A : Type 0} (n : ℕ) (xs : List A) → n ≤ 4 → length xs ≡ 4 → length (take n xs) ≡ n
 length-first n xs h e = length-take-le n xs (omega arith)
 
+-- past the end there are zeros
+pub at-out : (xs : List ℕ) (z : ℕ) → length xs ≤ z → at xs z ≡ 0
+at-out [] z h = refl
+at-out (x ∷ xs) zero h = absurd (omega arith)
+at-out (x ∷ xs) (suc z) h = at-out xs z (omega arith)
+
 -- nothing is left past the end
 pub drop-out : {A : Type 0} (i : ℕ) (xs : List A) → length xs ≤ i → drop i xs ≡ []
 drop-out i [] h = drop-nil i
