@@ -1,11 +1,12 @@
 // A region is a value, document 01's row: a location, and for each clock its interval and the rank of its fractional part.
 ghost use mathlib.Core.Path.{_≡_};
 ghost use mathlib.Core.Bool.{cond};
+ghost use mathlib.Core.Option.{none};
 ghost use Prim.Native.Nat.{_≤_, _<_};
 ghost use lib.Dec.{eqb, ltb};
 ghost use Rattle.regions.specs.Clocks.{allb};
 ghost use Rattle.regions.specs.Rows.{openb, heldb, clockb, isrowb};
-ghost use Rattle.regions.specs.Values.{Few, bounds-of, row-of};
+ghost use Rattle.regions.specs.Values.{Few, bounds-of, row-of, sought};
 
 // The clocks and their bounds; from count on the bounds are 0.
 pub struct Clocks {
@@ -24,6 +25,20 @@ pub struct Region {
 pub struct Sought {
     pub found: bool,
     pub region: Region,
+}
+
+// No region.
+pub fn missing() -> Sought
+    ensures { λ r. ⌜ r ≡ sought none ⌝ }
+{
+    Sought {
+        found: false,
+        region: Region {
+            location: 0,
+            intervals: [0; 4],
+            ranks: [0; 4],
+        },
+    }
 }
 
 // Whether the interval lies strictly between two whole values up to the bound.

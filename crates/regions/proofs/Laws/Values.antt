@@ -1,16 +1,22 @@
 -- From the code's arrays of four to the definitions' lists of n clocks, and from loops to tests over clocks. Assumes nothing.
-use Prim.Native.Nat.{ℕ, zero, suc, _+_, _≤_, _<_}
-use native.Mathlib.Decide.{ℕ-discrete}
+use Prim.Native.Nat.{ℕ, zero, suc, _+_, _-_, _≤_, _<_}
+use native.Mathlib.Decide.{decLt, ℕ-discrete}
 use native.Mathlib.Numerals.{add-one}
 use native.Mathlib.Omega.{arith}
 use native.Mathlib.Nat.{le-of-suc-le-suc}
 use mathlib.Core.Path.{_≡_, refl, sym, ap, _∙_}
 use mathlib.Core.Bool.{Bool, true, false, _&&_, _||_}
-use mathlib.Core.List.{List, [], _∷_, map}
-use lib.ListN.{length, getD, take, drop, length-map}
+use mathlib.Core.Option.{Option, none, some}
+use mathlib.Core.List.{List, [], _∷_, _++_, map, append-assoc}
+use lib.ListN.{length, getD, take, drop, set, replicate, length-map, length-append, length-replicate}
 use lib.Dec.{eqb}
-use lib.Seq.{drop-nil, getD-take, length-take-le}
-use Rattle.regions.specs.Clocks.{at, allb, someb}
+use lib.Seq.{drop-nil, getD-take, length-take-le, set-at, take-at, drop-cons, ext-getD}
+use Rattle.regions.specs.Clocks.{at, each, allb, someb}
+use Rattle.regions.specs.Row.{Row}
+use Rattle.regions.specs.Checks.{every, any}
+use Rattle.regions.specs.Values.{bounds-of, row-of, padded, region-of, sought, found-of}
+use Rattle.regions.specs.declared.region.Clocks.{Clocks}
+use Rattle.regions.proofs.Laws.Lists.{zeros, length-each}
 
 -- the first n clocks ------------------------------------------------------------------------------------------------------------------
 
@@ -18,9 +24,13 @@ use Rattle.regions.specs.Clocks.{at, allb, someb}
 pub at-take : (n : ℕ) (xs : List ℕ) (z : ℕ) → z < n → at (take n xs) z ≡ at xs z
 at-take n xs z h = getD-take n xs z 0 h
 
--- n clocks of four
+-- n of the four
 pub length-first : {A : Type 0} (n : ℕ) (xs : List A) → n ≤ 4 → length xs ≡ 4 → length (take n xs) ≡ n
 length-first n xs h e = length-take-le n xs (omega arith)
+
+-- one bound a clock
+pub length-bounds : (k : Clocks) → k .count ≤ 4 → length (k .bounds) ≡ 4 → length (bounds-of k) ≡ k .count
+length-bounds k h e = length-first (k .count) (k .bounds) h e
 
 -- past the end there are zeros
 pub at-out : (xs : List ℕ) (z : ℕ) → length xs ≤ z → at xs z ≡ 0
@@ -106,3 +116,85 @@ module _ (f : ℕ → Bool) where
   -- none has passed
   pub someb-end : (n z : ℕ) → z ≤ n → n ≤ z → someb z f ≡ false → someb n f ≡ false
   someb-end n z h l e = let d : n ≡ z = omega arith in rw d e
+
+-- four numbers, filled from zeros -------------------------------------------------------------------------------------------------------
+
+-- one clock more, at the end
+pub each-more : (z : ℕ) (f : ℕ → ℕ) → each (z + 1) f ≡ each z f ++ (f z ∷ [])
+each-more z f = rw add-one (go z f)
+  where
+    go : (z : ℕ) (f : ℕ → ℕ) → each (suc z) f ≡ each z f ++ (f z ∷ [])
+    go zero f = refl
+    go (suc z) f = ap (λ (l : List ℕ). f 0 ∷ l) (go z (λ (k : ℕ). f (suc k)))
+
+-- one store more; zeros are the start
+pub padded-next : (f : ℕ → ℕ) (z : ℕ) (ys : List ℕ) (x : ℕ) → z < 4 → ys ≡ padded (each z f) → x ≡ f z → set ys z x ≡ padded (each (z + 1) f)
+padded-next f z ys x h p q =
+    let d : 4 - z ≡ suc (4 - (z + 1)) = omega arith in
+    rw (p, q, length-each z f, length-each (z + 1) f, d, each-more, append-assoc) (set-at (each z f) 0 (replicate (4 - (z + 1)) 0) (f z) z (length-each z f))
+
+-- a clock's number is that of the list, and 0 after it
+pub at-padded : (xs : List ℕ) (z : ℕ) → at (padded xs) z ≡ at xs z
+at-padded xs z = go xs (4 - length xs) z
+  where
+    go : (xs : List ℕ) (m z : ℕ) → at (xs ++ replicate m 0) z ≡ at xs z
+    go [] m z = zeros m z
+    go (x ∷ xs) m zero = refl
+    go (x ∷ xs) m (suc z) = go xs m z
+
+-- there are four
+pub length-padded : (xs : List ℕ) → length xs ≤ 4 → length (padded xs) ≡ 4
+length-padded xs h = simp (length-append, length-replicate) (omega arith)
+
+-- the list is in front
+pub take-padded : (n : ℕ) (xs : List ℕ) → length xs ≡ n → take n (padded xs) ≡ xs
+take-padded n xs e = take-at xs (replicate (4 - length xs) 0) n e
+
+-- four numbers that are 0 from n on are the first n of them, with zeros after those
+pub padded-take : (n : ℕ) (xs : List ℕ) → n ≤ 4 → length xs ≡ 4 → ((z : ℕ) → n ≤ z → at xs z ≡ 0) → padded (take n xs) ≡ xs
+padded-take n xs h e f = ext-getD 0 (padded (take n xs)) xs (length-padded (take n xs) (rw (length-first n xs h e) h) ∙ sym e) (λ z l. at-padded (take n xs) z ∙ go z (decLt z n))
+  where
+    go : (z : ℕ) → Dec (z < n) → at (take n xs) z ≡ at xs z
+    go z (yes l) = at-take n xs z l
+    go z (no l) = at-out (take n xs) z (rw (length-first n xs h e) (omega arith)) ∙ sym (f z (omega arith))
+
+-- regions -------------------------------------------------------------------------------------------------------------------------------
+
+-- the row of a row's region is the row
+pub row-region : (n : ℕ) (r : Row) → length (r .intervals) ≡ n → length (r .ranks) ≡ n → row-of n (region-of r) ≡ r
+row-region n r p q =
+    let a : take n (padded (r .intervals)) ≡ r .intervals = take-padded n (r .intervals) p in
+    let b : take n (padded (r .ranks)) ≡ r .ranks = take-padded n (r .ranks) q in
+    λ i. record { location = r .location; intervals = a i; ranks = b i }
+
+-- what is found is what was sought
+pub found-sought : (n : ℕ) (o : Option Row) → ((r : Row) → o ≡ some r → (length (r .intervals) ≡ n) × (length (r .ranks) ≡ n)) → found-of n (sought o) ≡ o
+found-sought n none f = refl
+found-sought n (some r) f = ap some (row-region n r (f r refl .0) (f r refl .1))
+
+-- tests over a list, as loops that count up ---------------------------------------------------------------------------------------------
+
+module _ {A : Type 0} (p : A → Bool) (xs : List A) (d : A) (i : ℕ) where
+  -- one that passes leaves it to those after it
+  pub every-on : i < length xs → p (getD xs i d) ≡ true → every p (drop i xs) ≡ every p (drop (i + 1) xs)
+  every-on h e = rw (drop-cons xs i d h, e, add-one)
+
+  -- one that fails decides
+  pub every-fails : i < length xs → p (getD xs i d) ≡ false → every p (drop i xs) ≡ false
+  every-fails h e = rw (drop-cons xs i d h, e)
+
+  -- all have passed
+  pub every-end : length xs ≤ i → every p (drop i xs) ≡ true
+  every-end h = rw (drop-out i xs h)
+
+  -- one that fails leaves it to those after it
+  pub any-on : i < length xs → p (getD xs i d) ≡ false → any p (drop i xs) ≡ any p (drop (i + 1) xs)
+  any-on h e = rw (drop-cons xs i d h, e, add-one)
+
+  -- one that passes decides
+  pub any-found : i < length xs → p (getD xs i d) ≡ true → any p (drop i xs) ≡ true
+  any-found h e = rw (drop-cons xs i d h, e)
+
+  -- none has passed
+  pub any-end : length xs ≤ i → any p (drop i xs) ≡ false
+  any-end h = rw (drop-out i xs h)

@@ -2,7 +2,7 @@ use native.Mathlib.Omega.{arith}
 use mathlib.Core.Path.{sym, _∙_}
 use borrow.Author.Tests.{not-true, not-false}
 use borrow.Author.Needs.{needs}
-use Rattle.regions.proofs.Laws.Region.{clock-out, clock-misranked, clock-ranked}
+use Rattle.regions.proofs.Laws.RegionTests.{clock-out, clock-misranked, clock-ranked}
 use Rattle.regions.proofs.region.Region.is_clock.Statement.{statement}
 use Rattle.regions.proofs.region.Region.is_clock.Tie as tie
 

@@ -7,7 +7,7 @@ use borrow.Author.Needs.{needs}
 use Rattle.regions.specs.Values.{bounds-of, row-of}
 use Rattle.regions.specs.Rows.{clockb}
 use Rattle.regions.specs.Clocks.{allb}
-use Rattle.regions.proofs.Laws.Region.{row-is}
+use Rattle.regions.proofs.Laws.RegionTests.{row-is}
 use Rattle.regions.proofs.Laws.Values.{allb-more, allb-fails, allb-end}
 use Rattle.regions.proofs.region.Region.is_region.Statement.{statement}
 use Rattle.regions.proofs.region.Region.is_region.Tie as tie
