@@ -28,10 +28,10 @@ fn enters(bound: u16, interval: u16) -> bool
     requires { ⌜ bound ≤ 16383 ⌝ }
     ensures { λ r. ⌜ r ≡ entersb bound interval ⌝ }
 {
-    if 2 * bound <= interval {
+    if interval == 2 * bound {
         return false;
     }
-    interval % 2 == 0
+    is_even(bound, interval)
 }
 
 // The interval after a whole value is left.

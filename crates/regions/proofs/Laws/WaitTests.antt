@@ -1,21 +1,38 @@
 -- Waiting as the code does it, clock by clock in the arrays of the clocks k and the region v. Assumes nothing.
-use Prim.Native.Nat.{ℕ, _+_, _≤_, _<_, max}
+use Prim.Native.Nat.{ℕ, _+_, _≤_, _<_, _%_, _*_, max}
 use native.Mathlib.Numerals.{add-one}
 use native.Mathlib.Omega.{arith}
+use native.Mathlib.Decide.{decLt}
 use mathlib.Core.Path.{_≡_, refl, _∙_}
-use mathlib.Core.Bool.{Bool, true, false}
+use mathlib.Core.Bool.{Bool, true, false, _&&_}
 use mathlib.Core.List.{List, [], _∷_, _++_}
 use lib.ListN.{length, take, set}
 use lib.Seq.{take-suc}
+use lib.Dec.{eqb, leb, ltb}
+use borrow.Author.Tests.{lt-ltb, le-ltb, lt-leb, le-leb}
 use Rattle.regions.specs.Clocks.{at, each, someb, greatest}
 use Rattle.regions.specs.Row.{Row, IsRow}
-use Rattle.regions.specs.Wait.{growsb, leave-interval, leave-rank, left, arrive-interval, arrive-rank, arrived, wait}
+use Rattle.regions.specs.Wait.{evenb, entersb, growsb, leave-interval, leave-rank, left, arrive-interval, arrive-rank, arrived, wait}
 use Rattle.regions.specs.Values.{bounds-of, row-of, padded, region-of, sought, found-of}
 use Rattle.regions.specs.declared.region.Clocks.{Clocks}
 use Rattle.regions.specs.declared.region.Region.{Region}
 use Rattle.regions.proofs.Laws.Values.{at-take, length-first, someb-more, someb-found, someb-end, padded-next, found-sought}
 use Rattle.regions.proofs.Laws.Ranks.{rank-le}
 use Rattle.regions.proofs.Laws.Waiting.{wait-row}
+
+-- at its bound a clock does not enter an open interval
+pub enters-not : (c j : ℕ) → j ≡ 2 * c → false ≡ entersb c j
+unfolding entersb
+enters-not c j e = rw (le-ltb j (2 * c) (omega arith))
+
+-- elsewhere it does where it has a whole value
+pub enters-even : (c j : ℕ) → (j ≡ 2 * c → ⊥) → evenb c j ≡ entersb c j
+unfolding evenb entersb
+enters-even c j n = go (decLt j (2 * c))
+  where
+    go : Dec (j < 2 * c) → leb j (2 * c) && eqb (j % 2) 0 ≡ ltb j (2 * c) && eqb (j % 2) 0
+    go (yes h) = rw (le-leb j (2 * c) (omega arith), lt-ltb j (2 * c) h)
+    go (no h) = rw (lt-leb j (2 * c) (omega arith), le-ltb j (2 * c) (omega arith))
 
 -- the greatest of one more
 pub greatest-more : (xs : List ℕ) (z : ℕ) → z < length xs → greatest (take (z + 1) xs) ≡ max (greatest (take z xs)) (at xs z)

@@ -26,14 +26,20 @@ returns-3 c = simp (← c .before .before .is-even .ensures, c .before .if1 .lef
 
 returns-4 : tie.Need-returns-4
 unfolding leave-rank
-returns-4 c = simp (← c .before .before .before .is-even .ensures, c .before .before .if1 .left, not-false (c .before .before .before .before .args .grow) (c .before .if3 .left), le-ltb 0 (c .before .before .before .before .args .rank) (omega arith)) (sym (c .if4 .taken))
+returns-4 c =
+    let a = c .before .before .before .before .args in
+    let e = c .before .before .before .is-even .ensures in
+    simp (← e, c .before .before .if1 .left, not-false (a .grow) (c .before .if3 .left), le-ltb 0 (a .rank) (omega arith)) (sym (c .if4 .taken))
 
 add-result : tie.Need-add-result
 add-result c = search needs
 
 returns-5 : tie.Need-returns-5
 unfolding leave-rank
-returns-5 c = simp (← c .before .before .before .is-even .ensures, c .before .before .if1 .left, not-false (c .before .before .before .before .args .grow) (c .before .if3 .left), lt-ltb 0 (c .before .before .before .before .args .rank) (omega arith))
+returns-5 c =
+    let a = c .before .before .before .before .args in
+    let e = c .before .before .before .is-even .ensures in
+    simp (← e, c .before .before .if1 .left, not-false (a .grow) (c .before .if3 .left), lt-ltb 0 (a .rank) (omega arith))
 
 pub leave-rank-spec : {M : Type 1} → statement M
 leave-rank-spec =

@@ -9,7 +9,10 @@ use Rattle.regions.proofs.region.Region.arrived.Statement.{statement}
 use Rattle.regions.proofs.region.Region.arrived.Tie as tie
 
 abbrev Inv-loop : tie.InvT-loop
-Inv-loop top-rank self n intervals₀ ranks₀ z₀ intervals ranks z = (z ≤ n) × (intervals ≡ padded (each z (arrived-interval top-rank (row-of n self)))) × (ranks ≡ padded (each z (arrived-rank top-rank (row-of n self))))
+Inv-loop top-rank self n intervals₀ ranks₀ z₀ intervals ranks z =
+    (z ≤ n)
+    × (intervals ≡ padded (each z (arrived-interval top-rank (row-of n self))))
+    × (ranks ≡ padded (each z (arrived-rank top-rank (row-of n self))))
 
 abbrev μ-loop : tie.MeasureT-loop
 μ-loop top-rank self n intervals₀ ranks₀ z₀ intervals ranks z = n - z
@@ -30,7 +33,10 @@ element-copy-out-arrive-interval : tie.Need-element-copy-out-arrive-interval Inv
 element-copy-out-arrive-interval c = search needs
 
 arrive-interval-requires : tie.Need-arrive-interval-requires Inv-loop μ-loop
-arrive-interval-requires c κs = let a = c .before .before .before .before .before .args in interval-small (a .clocks) (a .t1) (search needs) (search needs) (c .before .before .before .before .before .pre .1 .0) _ (c .before .before .loop-test .taken) (c .before .before .before .before .before .pre .0 .low (c .before .before .before .loop .z))
+arrive-interval-requires c κs =
+    let s = c .before .before .before .before .before in
+    let a = s .args in
+    interval-small (a .clocks) (a .t1) (search needs) (search needs) (s .pre .1 .0) _ (c .before .before .loop-test .taken) (s .pre .0 .low (c .before .before .before .loop .z))
 
 mul-intervals : tie.Need-mul-intervals Inv-loop μ-loop
 mul-intervals c = search needs
@@ -51,14 +57,20 @@ loop-less : tie.Need-loop-less Inv-loop μ-loop
 loop-less c = search needs
 
 loop-again : tie.Need-loop-again Inv-loop μ-loop
-loop-again c = let a = c .before .before .before .before .before .before .before .args in (
-  omega arith,
-  arrived-interval-next (a .clocks) (a .t1) (search needs) (search needs) _ _ _ (c .before .before .before .before .loop-test .taken) _ (c .before .before .before .before .before .loop .inv .1) (c .before .arrive-interval .ensures),
-  arrived-rank-next (a .clocks) (a .t1) (search needs) (search needs) _ _ _ (c .before .before .before .before .loop-test .taken) _ (c .before .before .before .before .before .loop .inv .2) (c .arrive-rank .ensures),
-)
+loop-again c =
+    let a = c .before .before .before .before .before .before .before .args in
+    let t = c .before .before .before .before .loop-test .taken in
+    let i = c .before .before .before .before .before .loop .inv in (
+      omega arith,
+      arrived-interval-next (a .clocks) (a .t1) (search needs) (search needs) _ _ _ t _ (i .1) (c .before .arrive-interval .ensures),
+      arrived-rank-next (a .clocks) (a .t1) (search needs) (search needs) _ _ _ t _ (i .2) (c .arrive-rank .ensures),
+    )
 
 returns : tie.Need-returns Inv-loop μ-loop
-returns c = let a = c .before .before .before .args in arrived-is (a .clocks) (a .t1) (search needs) (search needs) _ _ _ (search needs) (c .loop-test .left) _ (c .before .before .before .pre .1 .1) (c .before .loop .inv .1) (c .before .loop .inv .2)
+returns c =
+    let a = c .before .before .before .args in
+    let i = c .before .loop .inv in
+    arrived-is (a .clocks) (a .t1) (search needs) (search needs) _ _ _ (i .0) (c .loop-test .left) _ (c .before .before .before .pre .1 .1) (i .1) (i .2)
 
 pub arrived-spec : {M : Type 1} → statement M
 arrived-spec =

@@ -33,10 +33,16 @@ loop-less : tie.Need-loop-less Inv-loop μ-loop
 loop-less c = search needs
 
 loop-again : tie.Need-loop-again Inv-loop μ-loop
-loop-again c = let a = c .before .before .before .before .before .args in let long : length (a .t1 .ranks) ≡ 4 = search needs in (omega arith, rw (greatest-more (a .t1 .ranks) (c .before .before .before .loop .z) (omega arith), ← c .before .before .before .loop .inv .1) (c .greater .ensures))
+loop-again c =
+    let ks = c .before .before .before .before .before .args .t1 .ranks in
+    let long : length ks ≡ 4 = search needs in
+    let i = c .before .before .before .loop .inv in
+    (omega arith, rw (greatest-more ks (c .before .before .before .loop .z) (omega arith), ← i .1) (c .greater .ensures))
 
 returns : tie.Need-returns Inv-loop μ-loop
-returns c = let e : c .before .loop .z ≡ c .before .before .before .args .clocks .count = omega arith in rw e at (c .before .loop .inv .1)
+returns c =
+    let e : c .before .loop .z ≡ c .before .before .before .args .clocks .count = omega arith in
+    rw e at (c .before .loop .inv .1)
 
 pub greatest-rank-spec : {M : Type 1} → statement M
 greatest-rank-spec =

@@ -40,7 +40,9 @@ enters-requires c κs = c .before .before .before .before .pre .low (c .before .
 
 returns : tie.Need-returns Inv-loop μ-loop
 unfolding growsb
-returns c = let a = c .before .before .before .before .before .before .args in sym (some-found (a .t2) (a .t1) (search needs) (search needs) entersb _ (c .before .before .before .before .loop-test .taken) (sym (c .before .enters .ensures) ∙ c .if1 .taken))
+returns c =
+    let a = c .before .before .before .before .before .before .args in
+    sym (some-found (a .t2) (a .t1) (search needs) (search needs) entersb _ (c .before .before .before .before .loop-test .taken) (sym (c .before .enters .ensures) ∙ c .if1 .taken))
 
 add-z : tie.Need-add-z Inv-loop μ-loop
 add-z c = search needs
@@ -49,11 +51,17 @@ loop-less : tie.Need-loop-less Inv-loop μ-loop
 loop-less c = search needs
 
 loop-again : tie.Need-loop-again Inv-loop μ-loop
-loop-again c = let a = c .before .before .before .before .before .before .args in (omega arith, some-more (a .t2) (a .t1) (search needs) (search needs) entersb _ (c .before .before .before .before .loop-test .taken) (c .before .before .before .before .before .loop .inv .1) (sym (c .before .enters .ensures) ∙ c .if1 .left))
+loop-again c =
+    let a = c .before .before .before .before .before .before .args in (
+      omega arith,
+      some-more (a .t2) (a .t1) (search needs) (search needs) entersb _ (c .before .before .before .before .loop-test .taken) (c .before .before .before .before .before .loop .inv .1) (sym (c .before .enters .ensures) ∙ c .if1 .left),
+    )
 
 returns-2 : tie.Need-returns-2 Inv-loop μ-loop
 unfolding growsb
-returns-2 c = let a = c .before .before .args in sym (some-end (a .t2) (a .t1) (search needs) (search needs) entersb _ (search needs) (c .loop-test .left) (c .before .loop .inv .1))
+returns-2 c =
+    let a = c .before .before .args in
+    sym (some-end (a .t2) (a .t1) (search needs) (search needs) entersb _ (c .before .loop .inv .0) (c .loop-test .left) (c .before .loop .inv .1))
 
 pub grows-spec : {M : Type 1} → statement M
 grows-spec =

@@ -12,7 +12,10 @@ use Rattle.regions.proofs.region.Region.guards_hold.Statement.{statemen
 use Rattle.regions.proofs.region.Region.guards_hold.Tie as tie
 
 abbrev Inv-loop : tie.InvT-loop
-Inv-loop self clocks e m i₀ i = (i ≤ m) × (guardsb (row-of (clocks .count) self) (edge-of (clocks .count) e .guards) ≡ guardsb (row-of (clocks .count) self) (drop i (edge-of (clocks .count) e .guards)))
+Inv-loop self clocks e m i₀ i =
+    (i ≤ m)
+    × (guardsb (row-of (clocks .count) self) (edge-of (clocks .count) e .guards)
+    ≡ guardsb (row-of (clocks .count) self) (drop i (edge-of (clocks .count) e .guards)))
 
 abbrev μ-loop : tie.MeasureT-loop
 μ-loop self clocks e m i₀ i = m - i

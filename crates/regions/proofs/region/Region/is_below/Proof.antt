@@ -16,7 +16,9 @@ add-if1 : tie.Need-add-if1
 add-if1 c = search needs
 
 returns : tie.Need-returns
-returns c = let a = c .before .before .before .args in not-below (a .clocks .count) (a .self) (a .other) (search needs) (search needs) (search needs) _ (c .before .shared-numbers .ensures) (c .if1 .taken)
+returns c =
+    let a = c .before .before .before .args in
+    not-below (a .clocks .count) (a .self) (a .other) (search needs) (search needs) (search needs) _ (c .before .shared-numbers .ensures) (c .if1 .taken)
 
 number-requires : tie.Need-number-requires
 number-requires c κs = search needs
@@ -25,7 +27,8 @@ number-requires-2 : tie.Need-number-requires-2
 number-requires-2 c κs = search needs
 
 returns-2 : tie.Need-returns-2
-returns-2 c = let a = c .before .before .before .before .before .args in
+returns-2 c =
+    let a = c .before .before .before .before .before .args in
     rw (c .number2 .ensures, c .before .number .ensures) (below-is (a .clocks .count) (a .self) (a .other) (search needs) (search needs) (search needs) _ (c .before .before .before .shared-numbers .ensures))
 
 pub is-below-spec : {M : Type 1} → statement M

@@ -31,7 +31,9 @@ element-copy-out-if2 : tie.Need-element-copy-out-if2 Inv-loop μ-loop
 element-copy-out-if2 c = search needs
 
 returns-2 : tie.Need-returns-2 Inv-loop μ-loop
-returns-2 c = let a = c .before .before .before .before .before .before .args in held-found (a .clocks) (a .t1) (search needs) (search needs) _ _ (c .before .before .loop-test .taken) (c .if2 .taken)
+returns-2 c =
+    let a = c .before .before .before .before .before .before .args in
+    held-found (a .clocks) (a .t1) (search needs) (search needs) _ _ (c .before .before .loop-test .taken) (c .if2 .taken)
 
 add-z : tie.Need-add-z Inv-loop μ-loop
 add-z c = search needs
@@ -43,7 +45,10 @@ loop-again : tie.Need-loop-again Inv-loop μ-loop
 loop-again c = (omega arith, someb-more _ _ (c .before .before .before .loop .inv .1) (rw (at-take _ _ _ (c .before .before .loop-test .taken)) (ne-eqb _ _ (c .if2 .left))))
 
 returns-3 : tie.Need-returns-3 Inv-loop μ-loop
-returns-3 c = let a = c .before .before .before .before .args in held-none (a .clocks) (a .t1) (search needs) (search needs) _ _ (c .before .before .before .if1 .left) (search needs) (c .loop-test .left) (c .before .loop .inv .1)
+returns-3 c =
+    let a = c .before .before .before .before .args in
+    let i = c .before .loop .inv in
+    held-none (a .clocks) (a .t1) (search needs) (search needs) _ _ (c .before .before .before .if1 .left) (i .0) (c .loop-test .left) (i .1)
 
 pub is-held-spec : {M : Type 1} → statement M
 is-held-spec =

@@ -29,7 +29,10 @@ is-clock-requires : tie.Need-is-clock-requires Inv-loop μ-loop
 is-clock-requires c κs = search needs
 
 returns : tie.Need-returns Inv-loop μ-loop
-returns c = let a = c .before .before .before .before .before .args in sym (allb-fails _ _ _ (c .before .before .loop-test .taken) (sym (c .before .is-clock .ensures) ∙ not-true _ (c .if1 .taken))) ∙ row-is (a .clocks) (a .self) (search needs) (search needs) (search needs) (search needs)
+returns c =
+    let a = c .before .before .before .before .before .args in
+    sym (allb-fails _ _ _ (c .before .before .loop-test .taken) (sym (c .before .is-clock .ensures) ∙ not-true _ (c .if1 .taken)))
+    ∙ row-is (a .clocks) (a .self) (search needs) (search needs) (search needs) (search needs)
 
 add-z : tie.Need-add-z Inv-loop μ-loop
 add-z c = search needs
@@ -41,7 +44,10 @@ loop-again : tie.Need-loop-again Inv-loop μ-loop
 loop-again c = (omega arith, allb-more _ _ (c .before .before .before .loop .inv .1) (sym (c .before .is-clock .ensures) ∙ not-false _ (c .if1 .left)))
 
 returns-2 : tie.Need-returns-2 Inv-loop μ-loop
-returns-2 c = let a = c .before .before .before .args in sym (allb-end _ _ _ (search needs) (c .loop-test .left) (c .before .loop .inv .1)) ∙ row-is (a .clocks) (a .self) (search needs) (search needs) (search needs) (search needs)
+returns-2 c =
+    let a = c .before .before .before .args in
+    sym (allb-end _ _ _ (c .before .loop .inv .0) (c .loop-test .left) (c .before .loop .inv .1))
+    ∙ row-is (a .clocks) (a .self) (search needs) (search needs) (search needs) (search needs)
 
 pub is-region-spec : {M : Type 1} → statement M
 is-region-spec =

@@ -9,7 +9,10 @@ use Rattle.regions.proofs.region.Region.left.Statement.{statement}
 use Rattle.regions.proofs.region.Region.left.Tie as tie
 
 abbrev Inv-loop : tie.InvT-loop
-Inv-loop self clocks grow n intervals₀ ranks₀ z₀ intervals ranks z = (z ≤ n) × (intervals ≡ padded (each z (left-interval (bounds-of clocks) (row-of (clocks .count) self)))) × (ranks ≡ padded (each z (left-rank grow (bounds-of clocks) (row-of (clocks .count) self))))
+Inv-loop self clocks grow n intervals₀ ranks₀ z₀ intervals ranks z =
+    (z ≤ n)
+    × (intervals ≡ padded (each z (left-interval (bounds-of clocks) (row-of (clocks .count) self))))
+    × (ranks ≡ padded (each z (left-rank grow (bounds-of clocks) (row-of (clocks .count) self))))
 
 abbrev μ-loop : tie.MeasureT-loop
 μ-loop self clocks grow n intervals₀ ranks₀ z₀ intervals ranks z = n - z
@@ -48,7 +51,10 @@ element-copy-out-leave-rank : tie.Need-element-copy-out-leave-rank Inv-loop μ-l
 element-copy-out-leave-rank c = search needs
 
 leave-rank-requires : tie.Need-leave-rank-requires Inv-loop μ-loop
-leave-rank-requires c κs = let a = c .before .before .before .before .before .before .before .args in (c .before .before .before .before .before .before .before .pre .0 .low (c .before .before .before .before .before .loop .z), rank-small (a .t2) (a .t1) (search needs) (search needs) (c .before .before .before .before .before .before .before .pre .1) _ (c .before .before .before .before .loop-test .taken))
+leave-rank-requires c κs =
+    let s = c .before .before .before .before .before .before .before in
+    let a = s .args in
+    (s .pre .0 .low (c .before .before .before .before .before .loop .z), rank-small (a .t2) (a .t1) (search needs) (search needs) (s .pre .1) _ (c .before .before .before .before .loop-test .taken))
 
 array-write-ranks : tie.Need-array-write-ranks Inv-loop μ-loop
 array-write-ranks c = search needs
@@ -60,14 +66,20 @@ loop-less : tie.Need-loop-less Inv-loop μ-loop
 loop-less c = search needs
 
 loop-again : tie.Need-loop-again Inv-loop μ-loop
-loop-again c = let a = c .before .before .before .before .before .before .before .before .args in (
-  omega arith,
-  left-interval-next (a .t2) (a .t1) (search needs) (search needs) _ _ _ (c .before .before .before .before .before .loop-test .taken) (c .before .before .before .before .before .before .loop .inv .1) (c .before .before .leave-interval .ensures),
-  left-rank-next (a .t2) (a .t1) (search needs) (search needs) _ _ _ (c .before .before .before .before .before .loop-test .taken) _ (c .before .before .before .before .before .before .loop .inv .2) (c .leave-rank .ensures),
-)
+loop-again c =
+    let a = c .before .before .before .before .before .before .before .before .args in
+    let t = c .before .before .before .before .before .loop-test .taken in
+    let i = c .before .before .before .before .before .before .loop .inv in (
+      omega arith,
+      left-interval-next (a .t2) (a .t1) (search needs) (search needs) _ _ _ t (i .1) (c .before .before .leave-interval .ensures),
+      left-rank-next (a .t2) (a .t1) (search needs) (search needs) _ _ _ t _ (i .2) (c .leave-rank .ensures),
+    )
 
 returns : tie.Need-returns Inv-loop μ-loop
-returns c = let a = c .before .before .before .args in left-is (a .t2) (a .t1) (search needs) (search needs) _ _ _ (search needs) (c .loop-test .left) _ (c .before .before .grows .ensures) (c .before .loop .inv .1) (c .before .loop .inv .2)
+returns c =
+    let a = c .before .before .before .args in
+    let i = c .before .loop .inv in
+    left-is (a .t2) (a .t1) (search needs) (search needs) _ _ _ (i .0) (c .loop-test .left) _ (c .before .before .grows .ensures) (i .1) (i .2)
 
 pub left-spec : {M : Type 1} → statement M
 left-spec =

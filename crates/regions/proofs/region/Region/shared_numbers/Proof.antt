@@ -30,8 +30,9 @@ number-requires-2 : tie.Need-number-requires-2 Inv-loop μ-loop
 number-requires-2 c κs = search needs
 
 returns : tie.Need-returns Inv-loop μ-loop
-returns c = let a = c .before .before .before .before .before .args in
-    next-differs (a .n) (a .self) (a .other) (search needs) (search needs) (search needs) _ (c .before .before .before .before .loop .inv .1) (c .before .before .before .loop-test .taken)
+returns c =
+    let a = c .before .before .before .before .before .args in
+    next-differs (a .n) (a .self) (a .other) (search needs) (search needs) (search needs) _ (c .before .before .before .before .loop .inv .1) (search needs)
     (λ q. c .if1 .taken (c .before .before .number .ensures ∙ q ∙ sym (c .before .number2 .ensures)))
 
 add-i : tie.Need-add-i Inv-loop μ-loop
@@ -41,13 +42,15 @@ loop-less : tie.Need-loop-less Inv-loop μ-loop
 loop-less c = search needs
 
 loop-again : tie.Need-loop-again Inv-loop μ-loop
-loop-again c = let a = c .before .before .before .before .before .args in (
-  omega arith,
-  next-shared (a .n) (a .self) (a .other) (search needs) (search needs) (search needs) _ (c .before .before .before .before .loop .inv .1) (c .before .before .before .loop-test .taken) (sym (c .before .before .number .ensures) ∙ c .if1 .left ∙ c .before .number2 .ensures),
-)
+loop-again c =
+    let a = c .before .before .before .before .before .args in
+    let i = c .before .before .before .before .loop .inv in
+    (omega arith, next-shared (a .n) (a .self) (a .other) (search needs) (search needs) (search needs) _ (i .1) (search needs) (sym (c .before .before .number .ensures) ∙ c .if1 .left ∙ c .before .number2 .ensures))
 
 returns-2 : tie.Need-returns-2 Inv-loop μ-loop
-returns-2 c = let a = c .before .before .args in no-next (a .n) (a .self) (a .other) (search needs) (search needs) (search needs) _ (c .before .loop .inv .1) (search needs) (c .loop-test .left)
+returns-2 c =
+    let a = c .before .before .args in
+    no-next (a .n) (a .self) (a .other) (search needs) (search needs) (search needs) _ (c .before .loop .inv .1) (search needs) (search needs)
 
 pub shared-numbers-spec : {M : Type 1} → statement M
 shared-numbers-spec =

@@ -22,14 +22,28 @@ missing-requires c κs = search needs
 
 returns-2 : tie.Need-returns-2
 unfolding wait
-returns-2 c = simp (c .missing .ensures, ← c .before .before .before .before .some-even .ensures, c .before .before .before .if1 .left, ← c .before .before .greatest-rank .ensures, eq-eqb _ _ (c .before .if2 .taken))
+returns-2 c =
+    simp (
+      c .missing .ensures,
+      ← c .before .before .before .before .some-even .ensures,
+      c .before .before .before .if1 .left,
+      ← c .before .before .greatest-rank .ensures,
+      eq-eqb _ _ (c .before .if2 .taken),
+    )
 
 arrived-requires : tie.Need-arrived-requires
 arrived-requires c κs = search needs
 
 returns-3 : tie.Need-returns-3
 unfolding wait
-returns-3 c = simp (c .arrived .ensures, ← c .before .before .before .before .some-even .ensures, c .before .before .before .if1 .left, ← c .before .before .greatest-rank .ensures, ne-eqb _ _ (c .before .if2 .left))
+returns-3 c =
+    simp (
+      c .arrived .ensures,
+      ← c .before .before .before .before .some-even .ensures,
+      c .before .before .before .if1 .left,
+      ← c .before .before .greatest-rank .ensures,
+      ne-eqb _ _ (c .before .if2 .left),
+    )
 
 pub wait-spec : {M : Type 1} → statement M
 wait-spec =
