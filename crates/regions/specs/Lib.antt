@@ -14,3 +14,4 @@ pub mod Checks
 pub mod Meeting
 pub mod Walk
 pub mod Values
+pub mod Order

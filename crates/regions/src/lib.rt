@@ -2,3 +2,6 @@
 pub mod comparison; // the table of comparisons
 pub mod region; // a region, the clocks' bounds
 pub mod edge; // guards, updates, edges
+pub mod guard; // guards in a region
+pub mod order; // the order of regions
+pub mod wait; // the time successor
