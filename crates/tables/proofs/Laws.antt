@@ -3,6 +3,9 @@
 pub mod Bytes
 pub mod Reading
 pub mod Records
+pub mod Parts
+pub mod Scan
 -- tables
 pub mod Tables
 pub mod Admission
+pub mod Locations

@@ -7,3 +7,4 @@ pub mod TableFile
 pub mod Admission
 pub mod Meaning
 pub mod Values
+pub mod Scan

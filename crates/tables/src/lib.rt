@@ -1,4 +1,6 @@
 // Table files: the record reader, edges by value, and the admission.
 pub mod answer; // what a call answers
 pub mod record; // the record reader, numbers in bytes
+pub mod scan; // how far a reading has come
+pub mod location; // location records
 pub mod admission; // the admission, and what an admitted file says
