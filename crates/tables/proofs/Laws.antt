@@ -5,7 +5,9 @@ pub mod Reading
 pub mod Records
 pub mod Parts
 pub mod Scan
+pub mod Loops
 -- tables
 pub mod Tables
 pub mod Admission
+pub mod Header
 pub mod Locations

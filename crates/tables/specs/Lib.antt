@@ -8,3 +8,4 @@ pub mod Admission
 pub mod Meaning
 pub mod Values
 pub mod Scan
+pub mod Header

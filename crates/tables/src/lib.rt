@@ -2,5 +2,6 @@
 pub mod answer; // what a call answers
 pub mod record; // the record reader, numbers in bytes
 pub mod scan; // how far a reading has come
+pub mod header; // the header
 pub mod location; // location records
 pub mod admission; // the admission, and what an admitted file says

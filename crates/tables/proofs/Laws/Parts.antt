@@ -53,12 +53,20 @@ module _ (file : List ℕ) (p n : ℕ) where
         short false e = let l : length file < p + n = leb-false (p + n) (length file) e in omega arith
 
     -- the bytes b that were found of a part
-    module _ (b : List ℕ) (is : b ≡ part-at file p n) where
-      pub bytes-found : (n ≡ 0 → p ≤ length file) → n ≤ length b → (p + n ≤ length file) × (next-bytes number place n (drop p file) ≡ good b (drop (p + n) file))
-      bytes-found none h = let there = part-found none (rw is at h) in (there, rw is (bytes-there there))
+    module _ (b : List ℕ) where
+      pub record Taken : Type 0 where
+        pub fits : p + n ≤ length file
+        pub sized : length b ≡ n
+        pub reads : next-bytes number place n (drop p file) ≡ good b (drop (p + n) file)
 
-      pub bytes-lack : length b < n → next-bytes number place n (drop p file) ≡ bad number place
-      bytes-lack h = bytes-missing (rw is at h)
+      module _ (is : b ≡ part-at file p n) where
+        pub bytes-found : (n ≡ 0 → p ≤ length file) → n ≤ length b → Taken
+        bytes-found none h =
+            let there = part-found none (rw is at h) in
+            record { fits = there; sized = ap length is ∙ part-there there .1; reads = rw is (bytes-there there) }
+
+        pub bytes-lack : length b < n → next-bytes number place n (drop p file) ≡ bad number place
+        bytes-lack h = bytes-missing (rw is at h)
 
     -- the bytes b that were found of a record, mark and all
     module _ (mark b : List ℕ) where
