@@ -11,3 +11,4 @@ pub mod Tables
 pub mod Admission
 pub mod Header
 pub mod Locations
+pub mod Edges

@@ -9,3 +9,4 @@ pub mod Meaning
 pub mod Values
 pub mod Scan
 pub mod Header
+pub mod Edge

@@ -4,4 +4,5 @@ pub mod record; // the record reader, numbers in bytes
 pub mod scan; // how far a reading has come
 pub mod header; // the header
 pub mod location; // location records
+pub mod edge; // edge records
 pub mod admission; // the admission, and what an admitted file says
