@@ -10,8 +10,13 @@ ghost use Rattle.tables.specs.Reading.{records};
 ghost use Rattle.tables.specs.TableFile.{guard, guard-in-range, fields, fields-in-range, edge-record};
 ghost use Rattle.tables.specs.Scan.{Scanned};
 ghost use Rattle.tables.specs.Edge.{ends-in-range, size-of, guards-from, fields-from};
-use crate::record::{part, record, two_bytes};
-use crate::scan::{reached, refused, Scan};
+use crate::admission::Head;
+use crate::record::part;
+use crate::record::record;
+use crate::record::two_bytes;
+use crate::scan::Scan;
+use crate::scan::reached;
+use crate::scan::refused;
 
 const ED: [u8; 2] = *b"ED";
 
@@ -156,4 +161,59 @@ fn updates_pass(bytes: &[u8], first: usize, clocks: u8) -> bool
         z += 1;
     }
     true
+}
+
+// How many bytes so many guards, and an update for each clock, have.
+pub fn size_of(count: u8, clocks: u8) -> usize
+    ensures { λ r. ⌜ r ≡ size-of count clocks ⌝ }
+{
+    3 * (count as usize) + 5 * (clocks as usize)
+}
+
+// Reads the edge record from at on: 5 bytes, their fields, and then guards and updates, all together.
+fn edge_record(file: &[u8], at: usize, place: u16, clocks: u8, locations: u8) -> Scan
+    ensures { λ r. ⌜ Scanned (now (file .entry)) (edge-record clocks locations place (drop at (now (file .entry)))) r ⌝ }
+{
+    let bytes = record(file, at, 5, ED);
+    if bytes.len() < 5 {
+        return refused(1, place);
+    }
+    if !ends_pass(bytes, locations) {
+        return refused(3, place);
+    }
+    let count = bytes[4];
+    let size = size_of(count, clocks);
+    let rest = part(file, at + 5, size);
+    if rest.len() < size {
+        return refused(1, place);
+    }
+    if !guards_pass(rest, count, clocks) {
+        return refused(3, place);
+    }
+    if !updates_pass(rest, 3 * (count as usize), clocks) {
+        return refused(3, place);
+    }
+    reached(at + 5 + size)
+}
+
+// Reads the edge records from at on; the first of them comes after the header and the locations.
+pub fn edges(file: &[u8], at: usize, head: Head) -> Scan
+    requires { ⌜ at ≤ length (now file) ⌝ }
+    requires { ⌜ head .edges ≤ 256 ⌝ }
+    ensures { λ r. ⌜ Scanned (now (file .entry)) (records (edge-record (head .clocks .count) (head .locations)) (1 + head .locations) (head .edges) (drop at (now (file .entry)))) r ⌝ }
+{
+    let clocks = head.clocks.count;
+    let locations = head.locations;
+    let mut here = at;
+    let mut place = 1 + (locations as u16);
+    let stop = place + head.edges;
+    while place < stop {
+        let scan = edge_record(file, here, place, clocks, locations);
+        if scan.number != 0 {
+            return scan;
+        }
+        here = scan.at;
+        place += 1;
+    }
+    reached(here)
 }

@@ -8,8 +8,18 @@ use lib.ListN.{length, drop}
 use lib.Dec.{eqb, leb, ltb}
 use borrow.Author.Tests.{ne-eqb}
 use Rattle.regions.specs.Clocks.{at}
-use Rattle.tables.specs.Bytes.{up, down}
-use Rattle.tables.specs.TableFile.{Fields, fields-in-range}
+use Rattle.regions.specs.Edge.{Edge}
+use Rattle.regions.specs.Checks.{every}
+use Rattle.tables.specs.Bytes.{ED, up, down}
+use Rattle.tables.specs.Reading.{Read, good, bad, Reader, carry, _>>=_, _>>_, done, next-bytes, require}
+use Rattle.tables.specs.Records.{part-at, record-at}
+use Rattle.tables.specs.TableFile.{guard-in-range, Fields, fields-in-range, edge-record}
+use Rattle.tables.specs.Scan.{Scanned}
+use Rattle.tables.specs.Edge.{ends-in-range, size-of, guards-from, fields-from, edge-from}
+use Rattle.tables.specs.declared.scan.Scan.{Scan}
+use Rattle.tables.proofs.Laws.Reading.{goes, passes, fails, both}
+use Rattle.tables.proofs.Laws.Parts.{Found, Taken, record-found, record-lacks, bytes-found, bytes-lack}
+use Rattle.tables.proofs.Laws.Scan.{refusal, success}
 
 -- one update's fields, by their kind -----------------------------------------------------------------------------------------
 
@@ -29,3 +39,95 @@ module _ (n : ℕ) (f : Fields) where
 
   pub no-kind : (f .kind ≡ 0 → ⊥) → (f .kind ≡ 1 → ⊥) → (f .kind ≡ 2 → ⊥) → false ≡ fields-in-range n f
   no-kind h k l = rw (ne-eqb (f .kind) 0 h, ne-eqb (f .kind) 1 k, ne-eqb (f .kind) 2 l)
+
+-- the record -----------------------------------------------------------------------------------------------------------------
+
+module _ (file : List ℕ) (n L place p : ℕ) (b : List ℕ) (is : b ≡ record-at file p 5 ED) where
+  abbrev whole : Read Edge
+  whole = edge-record n L place (drop p file)
+
+  abbrev rest-of : Unit {0} → Reader Edge
+  rest-of _ = do
+    d ← next-bytes 1 place (size-of (at b 4) n)
+    require 3 place (every (guard-in-range n) (guards-from d (at b 4)))
+    require 3 place (every (fields-in-range n) (fields-from d (3 * at b 4) n))
+    done (edge-from n b d)
+
+  edge-short : length b < 5 → whole ≡ bad 1 place
+  unfolding edge-record carry
+  edge-short h = rw (record-lacks file p 5 1 place ED b is h)
+
+  module _ (there : 5 ≤ length b) where
+    pub found : Found file p 5 1 place ED b
+    found = record-found file p 5 1 place ED b is (omega arith) there
+
+    -- the tests of the fields before the guards are one
+    ends-tested : whole ≡ carry (require 3 place (ends-in-range L b) (drop (p + 5) file)) rest-of
+    unfolding edge-record ends-in-range
+    ends-tested =
+        goes _ _ _ _ (found .reads)
+        ∙ both 3 place (ltb (at b 2) L) (ltb (at b 3) L) (drop (p + 5) file) _
+        ∙ both 3 place (ltb (at b 2) L && ltb (at b 3) L) (leb (at b 4) 8) (drop (p + 5) file) rest-of
+
+    ends-fail : ends-in-range L b ≡ false → whole ≡ bad 3 place
+    ends-fail h = ends-tested ∙ fails 3 place (ends-in-range L b) (drop (p + 5) file) rest-of h
+
+    module _ (ends : ends-in-range L b ≡ true) (d : List ℕ) (part : d ≡ part-at file (p + 5) (size-of (at b 4) n)) where
+      rest-due : whole ≡ rest-of tt (drop (p + 5) file)
+      rest-due = ends-tested ∙ goes _ _ tt _ (passes 3 place (ends-in-range L b) (drop (p + 5) file) ends)
+
+      rest-short : length d < size-of (at b 4) n → whole ≡ bad 1 place
+      unfolding carry
+      rest-short h = rest-due ∙ rw (bytes-lack file (p + 5) (size-of (at b 4) n) 1 place d part h)
+
+      module _ (rest-there : size-of (at b 4) n ≤ length d) where
+        pub taken : Taken file (p + 5) (size-of (at b 4) n) 1 place d
+        taken = bytes-found file (p + 5) (size-of (at b 4) n) 1 place d part (λ z. found .fits) rest-there
+
+        guards-fail : every (guard-in-range n) (guards-from d (at b 4)) ≡ false → whole ≡ bad 3 place
+        guards-fail h = rest-due ∙ goes _ _ _ _ (taken .reads) ∙ fails 3 place (every (guard-in-range n) (guards-from d (at b 4))) _ _ h
+
+        module _ (guards : every (guard-in-range n) (guards-from d (at b 4)) ≡ true) where
+          updates-due : whole ≡ carry (require 3 place (every (fields-in-range n) (fields-from d (3 * at b 4) n)) (drop (p + 5 + size-of (at b 4) n) file)) (λ _. done (edge-from n b d))
+          updates-due = rest-due ∙ goes _ _ _ _ (taken .reads) ∙ goes _ _ tt _ (passes 3 place (every (guard-in-range n) (guards-from d (at b 4))) _ guards)
+
+          updates-fail : every (fields-in-range n) (fields-from d (3 * at b 4) n) ≡ false → whole ≡ bad 3 place
+          updates-fail h = updates-due ∙ fails 3 place _ _ _ h
+
+          pub updates-pass : every (fields-in-range n) (fields-from d (3 * at b 4) n) ≡ true → whole ≡ good (edge-from n b d) (drop (p + 5 + size-of (at b 4) n) file)
+          updates-pass h = updates-due ∙ goes _ _ tt _ (passes 3 place _ _ h)
+
+-- and what a scan says of it
+module _ (file : List ℕ) (n L place p : ℕ) (b : List ℕ) (is : b ≡ record-at file p 5 ED) (s : Scan) where
+  abbrev Says : Type 0
+  Says = Scanned file (edge-record n L place (drop p file)) s
+
+  abbrev Refused : ℕ → Type 0
+  Refused number = (s .number ≡ number) × (s .place ≡ place)
+
+  pub edge-lacks : length b < 5 → Refused 1 → Says
+  edge-lacks h = refusal file _ 1 place s (edge-short file n L place p b is h) (omega arith)
+
+  module _ (there : 5 ≤ length b) where
+    pub edge-ends : ends-in-range L b ≡ false → Refused 3 → Says
+    edge-ends h = refusal file _ 3 place s (ends-fail file n L place p b is there h) (omega arith)
+
+    module _ (ends : ends-in-range L b ≡ true) (size : ℕ) (sized : size ≡ size-of (at b 4) n) (d : List ℕ) (part : d ≡ part-at file (p + 5) size) where
+      pub rest-lacks : length d < size → Refused 1 → Says
+      rest-lacks h = refusal file _ 1 place s (rest-short file n L place p b is there ends d (rw sized at part) (rw sized at h)) (omega arith)
+
+      module _ (rest-there : size ≤ length d) where
+        pub edge-guards : every (guard-in-range n) (guards-from d (at b 4)) ≡ false → Refused 3 → Says
+        edge-guards h = refusal file _ 3 place s (guards-fail file n L place p b is there ends d (rw sized at part) (rw sized at rest-there) h) (omega arith)
+
+        pub rest-fits : p + 5 + size ≤ length file
+        rest-fits = rw sized (taken file n L place p b is there ends d (rw sized at part) (rw sized at rest-there) .fits)
+
+        module _ (guards : every (guard-in-range n) (guards-from d (at b 4)) ≡ true) where
+          pub edge-updates : every (fields-in-range n) (fields-from d (3 * at b 4) n) ≡ false → Refused 3 → Says
+          edge-updates h = refusal file _ 3 place s (updates-fail file n L place p b is there ends d (rw sized at part) (rw sized at rest-there) guards h) (omega arith)
+
+          pub edge-read : every (fields-in-range n) (fields-from d (3 * at b 4) n) ≡ true → (s .number ≡ 0) × (s .at ≡ p + 5 + size) → Says
+          edge-read h =
+              success file _ (edge-from n b d) (p + 5 + size) s
+              (updates-pass file n L place p b is there ends d (rw sized at part) (rw sized at rest-there) guards h ∙ (λ i. good (edge-from n b d) (drop (p + 5 + sym sized i) file))) rest-fits
