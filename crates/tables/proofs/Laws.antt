@@ -12,3 +12,4 @@ pub mod Admission
 pub mod Header
 pub mod Locations
 pub mod Edges
+pub mod Decode

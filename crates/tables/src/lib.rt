@@ -5,4 +5,5 @@ pub mod scan; // how far a reading has come
 pub mod header; // the header
 pub mod location; // location records
 pub mod edge; // edge records
+pub mod decode; // edges by value
 pub mod admission; // the admission, and what an admitted file says

@@ -84,6 +84,10 @@ pub map-append : {A B : Type 0} (f : A → B) (xs ys : List A) → map f (xs ++ 
 map-append f [] ys = refl
 map-append {B = B} f (x ∷ xs) ys = ap (λ (l : List B). f x ∷ l) (map-append f xs ys)
 
+pub map-twice : {A B C : Type 0} (f : B → C) (g : A → B) (xs : List A) → map f (map g xs) ≡ map (λ (x : A). f (g x)) xs
+map-twice f g [] = refl
+map-twice {C = C} f g (x ∷ xs) = ap (λ (l : List C). f (g x) ∷ l) (map-twice f g xs)
+
 module _ {A B : Type 0} where
   -- the first k of the array of m are, as they are seen, f 0, f 1, ..
   pub record Filled (view : A → B) (f : ℕ → B) (m k : ℕ) (xs : List A) : Type 0 where
@@ -106,3 +110,6 @@ module _ {A B : Type 0} where
         ∙ ap (map f) (sym (from-last 0 k ∙ (let z : 0 + k ≡ k = omega arith in λ i. from 0 k ++ (z i ∷ []))))
         ∙ ap (λ (n : ℕ). map f (from 0 n)) (sym (add-one k));
   }
+
+  pub all-filled : {view : A → B} {f : ℕ → B} {m k : ℕ} {xs : List A} → Filled view f m k xs → (n : ℕ) → k ≡ n → map view (take n xs) ≡ map f (from 0 n)
+  all-filled p n e = rw e at (p .first)
