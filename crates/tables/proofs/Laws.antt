@@ -13,3 +13,4 @@ pub mod Header
 pub mod Locations
 pub mod Edges
 pub mod Decode
+pub mod Bounds

@@ -10,3 +10,5 @@ pub mod Values
 pub mod Scan
 pub mod Header
 pub mod Edge
+pub mod Skips
+pub mod Bounds

@@ -6,4 +6,5 @@ pub mod header; // the header
 pub mod location; // location records
 pub mod edge; // edge records
 pub mod decode; // edges by value
+pub mod bounds; // the bound rules
 pub mod admission; // the admission, and what an admitted file says

@@ -5,9 +5,9 @@ use native.Mathlib.Numerals.{add-one}
 use native.Mathlib.Omega.{arith}
 use mathlib.Core.Path.{_≡_, refl, sym, ap, _∙_}
 use mathlib.Core.Bool.{Bool, true, false, _&&_}
-use mathlib.Core.List.{List, [], _∷_, _++_, map}
-use lib.ListN.{length, take, set, getD, length-set}
-use lib.Seq.{take-suc-set}
+use mathlib.Core.List.{List, [], _∷_, _++_, map, List·Memᴰ·head, List·Memᴰ·tail}
+use lib.ListN.{length, take, set, getD, length-map, length-set}
+use lib.Seq.{length-take-le, getD-take, take-suc-set}
 use Rattle.regions.specs.Clocks.{allb}
 use Rattle.regions.specs.Closed.{Mem}
 use Rattle.regions.specs.Rows.{from}
@@ -47,6 +47,14 @@ same-test true false p q = sym (q .1 (p .0 refl))
 same-test false true p q = p .1 (q .0 refl)
 same-test false false p q = refl
 
+-- two tests that agree below n
+pub every-same : (t u : ℕ → Bool) (n : ℕ) → ((i : ℕ) → i < n → t i ≡ u i) → every t (from 0 n) ≡ every u (from 0 n)
+every-same t u n h = go (from 0 n) (λ i m. let l = from-out 0 n i m in h i (omega arith))
+  where
+    go : (xs : List ℕ) → ((i : ℕ) → Mem i xs → t i ≡ u i) → every t xs ≡ every u xs
+    go [] g = refl
+    go (x ∷ xs) g = λ i. g x (List·Memᴰ·head refl) i && go xs (λ y m. g y (List·Memᴰ·tail m)) i
+
 module _ {A : Type 0} (p : A → Bool) where
   -- of a list, by number
   pub every-at : (xs : List A) (d : A) → every p xs ≡ every (λ (i : ℕ). p (getD xs i d)) (from 0 (length xs))
@@ -59,6 +67,13 @@ module _ {A : Type 0} (p : A → Bool) where
 
       back : ((a : A) → Mem a xs → p a ≡ true) → (i : ℕ) → Mem i (from 0 (length xs)) → p (getD xs i d) ≡ true
       back h i m = let l = from-out 0 (length xs) i m in h _ (getD-in xs i d (omega arith))
+
+  -- of the first n of a list
+  pub every-taken : (xs : List A) (n : ℕ) (d : A) → n ≤ length xs → every p (take n xs) ≡ every (λ (i : ℕ). p (getD xs i d)) (from 0 n)
+  every-taken xs n d h =
+      every-at (take n xs) d
+      ∙ ap (λ (k : ℕ). every (λ (i : ℕ). p (getD (take n xs) i d)) (from 0 k)) (length-take-le n xs h)
+      ∙ every-same (λ (i : ℕ). p (getD (take n xs) i d)) (λ (i : ℕ). p (getD xs i d)) n (λ i l. ap p (getD-take n xs i d l))
 
   -- of what is made of a list
   pub every-map : {B : Type 0} (f : B → A) (xs : List B) → every p (map f xs) ≡ every (λ (x : B). p (f x)) xs
@@ -75,6 +90,10 @@ allb-every n t =
     ))
 
 -- arrays ---------------------------------------------------------------------------------------------------------------------
+
+-- a list is as long as what is made of it
+pub length-mapped : (A B : Type 0) (f : A → B) (xs : List A) (n : ℕ) → length (map f xs) ≡ n → length xs ≡ n
+length-mapped A B f xs n e = sym (length-map xs f) ∙ e
 
 pub from-last : (a n : ℕ) → from a (suc n) ≡ from a n ++ ((a + n) ∷ [])
 from-last a zero = let e : a ≡ a + 0 = omega arith in λ i. e i ∷ []
