@@ -6,6 +6,7 @@ pub mod Records
 pub mod Parts
 pub mod Scan
 pub mod Loops
+pub mod Skips
 -- tables
 pub mod Tables
 pub mod Admission
@@ -14,3 +15,4 @@ pub mod Locations
 pub mod Edges
 pub mod Decode
 pub mod Bounds
+pub mod Opening

@@ -1,5 +1,10 @@
 // The admission of a table file.
 ghost use mathlib.Core.Path.{_≡_};
+ghost use Rattle.tables.specs.Values.{Opens};
+use crate::bounds::edges_bounded;
+use crate::edge::edges;
+use crate::header::header;
+use crate::location::locations;
 use regions::region::Clocks;
 
 // What the records of an admitted table are read by: the clocks, how many locations and edges there are, and the initial location.
@@ -45,4 +50,33 @@ pub fn fine(head: Head) -> Opened
         place: 0,
         head,
     }
+}
+
+// Refusals 1 to 6: the number and place of the first that applies, or 0 and what the table is read by.
+pub fn open(file: &[u8]) -> Opened
+    ensures { λ r. ⌜ Opens (now (file .entry)) r ⌝ }
+{
+    let begun = header(file);
+    if begun.number != 0 {
+        return begun;
+    }
+    let head = begun.head;
+    let clocks = head.clocks;
+    let l = locations(file, 7 + (clocks.count as usize), head.locations);
+    if l.number != 0 {
+        return refusal(l.number, l.place);
+    }
+    let first = l.at;
+    let e = edges(file, first, head);
+    if e.number != 0 {
+        return refusal(e.number, e.place);
+    }
+    if e.at < file.len() {
+        return refusal(4, 1 + (head.locations as u16) + head.edges);
+    }
+    let b = edges_bounded(file, first, head);
+    if b.number != 0 {
+        return refusal(b.number, b.place);
+    }
+    fine(head)
 }

@@ -6,7 +6,7 @@ use mathlib.Core.Bool.{Bool, true, false, _&&_, _||_}
 use mathlib.Core.List.{List, map}
 use lib.ListN.{length, drop}
 use lib.Dec.{eqb, leb, ltb}
-use borrow.Author.Tests.{ne-eqb}
+use borrow.Author.Tests.{leb-true, ne-eqb}
 use Rattle.regions.specs.Clocks.{at}
 use Rattle.regions.specs.Edge.{Edge}
 use Rattle.regions.specs.Checks.{every}
@@ -15,11 +15,12 @@ use Rattle.tables.specs.Reading.{Read, good, bad, Reader, carry, _>>=_, 
 use Rattle.tables.specs.Records.{part-at, record-at}
 use Rattle.tables.specs.TableFile.{guard-in-range, Fields, fields-in-range, edge-record}
 use Rattle.tables.specs.Scan.{Scanned}
-use Rattle.tables.specs.Edge.{ends-in-range, size-of, guards-from, fields-from, edge-from}
+use Rattle.tables.specs.Edge.{ends-in-range, size-of, guards-from, fields-from, edge-from, edge-at, after-edge, Stands}
 use Rattle.tables.specs.declared.scan.Scan.{Scan}
-use Rattle.tables.proofs.Laws.Reading.{goes, passes, fails, both}
-use Rattle.tables.proofs.Laws.Parts.{Found, Taken, record-found, record-lacks, bytes-found, bytes-lack}
+use Rattle.tables.proofs.Laws.Reading.{parts, tested, took, took-record, goes, passes, fails, both}
+use Rattle.tables.proofs.Laws.Parts.{Found, Taken, record-found, record-lacks, bytes-found, bytes-lack, TookPart, took-part}
 use Rattle.tables.proofs.Laws.Scan.{refusal, success}
+use Rattle.tables.proofs.Laws.Skips.{One}
 
 -- one update's fields, by their kind -----------------------------------------------------------------------------------------
 
@@ -131,3 +132,26 @@ module _ (file : List ℕ) (n L place p : ℕ) (b : List ℕ) (is : b ≡ record
           edge-read h =
               success file _ (edge-from n b d) (p + 5 + size) s
               (updates-pass file n L place p b is there ends d (rw sized at part) (rw sized at rest-there) guards h ∙ (λ i. good (edge-from n b d) (drop (p + 5 + sym sized i) file))) rest-fits
+
+-- by position ----------------------------------------------------------------------------------------------------------------
+
+pub edge-one : (n L : ℕ) (file : List ℕ) (place p : ℕ) (e : Edge) (rest : List ℕ) → edge-record n L place (drop p file) ≡ good e rest
+    → One (edge-at n file) (after-edge n file) (Stands n file) file p e rest
+unfolding edge-record edge-at after-edge
+edge-one n L file place p e rest h0 =
+    parts _ _ h0 λ b f1 e1 h1.
+    tested _ _ _ _ _ h1 λ t2 h2.
+    tested _ _ _ _ _ h2 λ t3 h3.
+    tested _ _ _ _ _ h3 λ t4 h4.
+    parts _ _ h4 λ d f5 e5 h5.
+    tested _ _ _ _ _ h5 λ t6 h6.
+    tested _ _ _ _ _ h6 λ t7 h7.
+    let first : TookPart file p 5 b f1 = took-part (λ z. absurd (omega arith)) refl (took-record 1 place ED 5 (drop p file) e1 .0) in
+    let others : TookPart file (p + 5) (size-of (at b 4) n) d f5 = took-part (λ z. first .fits) (first .leaves) (took 1 place (size-of (at b 4) n) f1 e5) in
+    let v : edge-from n b d ≡ e = cc in
+    let l : f5 ≡ rest = cc in
+    record {
+      says = rw (← first .bytes, ← others .bytes) (sym v);
+      leaves = rw (← first .bytes) (sym l ∙ others .leaves);
+      stands = record { whole = rw (← first .bytes) (others .fits); few-guards = rw (← first .bytes) (leb-true (at b 4) 8 t4) };
+    }

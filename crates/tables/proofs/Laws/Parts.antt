@@ -1,17 +1,18 @@
 -- What the record reader finds, against the definitions' reading from a position on. Assumes nothing.
 use Prim.Native.Nat.{ℕ, _+_, _-_, _≤_, _<_}
+use native.Mathlib.Decide.{ℕ-discrete}
 use native.Mathlib.Omega.{arith}
 use mathlib.Core.Path.{_≡_, refl, sym, ap, _∙_}
 use mathlib.Core.Bool.{Bool, true, false, cond}
-use mathlib.Core.List.{List, []}
-use lib.ListN.{length, take, drop, length-drop}
-use lib.Seq.{length-take-le, drop-drop}
+use mathlib.Core.List.{List, [], _++_}
+use lib.ListN.{length, take, drop, length-append, length-drop}
+use lib.Seq.{length-take-le, take-at, drop-at, drop-drop}
 use lib.Dec.{leb}
 use borrow.Author.Tests.{leb-true, leb-false, le-leb, lt-leb}
 use Rattle.regions.specs.Checks.{same}
 use Rattle.tables.specs.Reading.{Read, good, bad, _>>=_, carry, next-bytes, require, next-record}
 use Rattle.tables.specs.Records.{part-at, record-at}
-use Rattle.tables.proofs.Laws.Reading.{goes, passes}
+use Rattle.tables.proofs.Laws.Reading.{Took, goes, passes}
 
 module _ (file : List ℕ) (p n : ℕ) where
   -- n bytes stand from p on
@@ -97,3 +98,24 @@ module _ (file : List ℕ) (p n : ℕ) where
                 by : (t : Bool) → leb (p + n) (length file) ≡ t → next-record number place mark n (drop p file) ≡ bad number place
                 by true f = rw (bytes-there (leb-true (p + n) (length file) f), e)
                 by false f = rw (bytes-missing (let z : length (part-at file p n) ≡ 0 = ap length (part-none (leb-false (p + n) (length file) f)) in let some = h in omega arith))
+
+-- what was taken from position p on
+pub record TookPart (file : List ℕ) (p n : ℕ) (b rest : List ℕ) : Type 0 where
+  pub fits : p + n ≤ length file
+  pub bytes : b ≡ part-at file p n
+  pub leaves : rest ≡ drop (p + n) file
+
+pub took-part : {file : List ℕ} {p n : ℕ} {b rest : List ℕ} → (n ≡ 0 → p ≤ length file) → {left : List ℕ} → left ≡ drop p file → Took n left b rest → TookPart file p n b rest
+took-part {file} {p} {n} {b} {rest} none {left} l t =
+    let w : drop p file ≡ b ++ rest = sym l ∙ t .whole in
+    let long : n + length rest ≡ length file - p = (rw (← t .sized) (sym (length-append b rest))) ∙ sym (ap length w) ∙ length-drop p file in
+    let h : p + n ≤ length file = fits long (ℕ-discrete n 0) in
+    record {
+      fits = h;
+      bytes = sym (part-there file p n h .0 ∙ ap (take n) w ∙ take-at b rest n (t .sized));
+      leaves = sym (sym (drop-drop n p file) ∙ ap (drop n) w ∙ drop-at b rest n (t .sized));
+    }
+  where
+    fits : n + length rest ≡ length file - p → Dec (n ≡ 0) → p + n ≤ length file
+    fits e (yes z) = let k : p ≤ length file = none z in omega arith
+    fits e (no z) = omega arith
