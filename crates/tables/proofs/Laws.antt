@@ -3,8 +3,18 @@
 pub mod Bytes
 pub mod Reading
 pub mod Records
+pub mod Parts
+pub mod Scan
+pub mod Loops
+pub mod Skips
 -- tables
 pub mod Tables
 pub mod Admission
 pub mod EdgeBytes
 pub mod TableBytes
+pub mod Header
+pub mod Locations
+pub mod Edges
+pub mod Decode
+pub mod Bounds
+pub mod Opening

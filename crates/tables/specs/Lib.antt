@@ -8,3 +8,8 @@ pub mod Admission
 pub mod Meaning
 pub mod TableBytes
 pub mod Values
+pub mod Scan
+pub mod Header
+pub mod Edge
+pub mod Skips
+pub mod Bounds

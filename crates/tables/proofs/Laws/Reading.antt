@@ -2,7 +2,7 @@
 use Prim.Native.Nat.{ℕ, zero, suc, _+_, _≤_}
 use native.Mathlib.Omega.{arith}
 use mathlib.Core.Path.{_≡_, refl, sym, ap, _∙_}
-use mathlib.Core.Bool.{Bool, true, false, cond}
+use mathlib.Core.Bool.{Bool, true, false, cond, _&&_}
 use mathlib.Core.Logic.{_⊎_, inl, inr}
 use mathlib.Core.List.{List, [], _∷_, _++_, append-assoc, List·Memᴰ·head, List·Memᴰ·tail, List·Memᴰ·not-nil, List·Memᴰ·cases-cons}
 use lib.ListN.{length, take, drop, length-append, take-append-drop}
@@ -137,6 +137,17 @@ module _ {A B : Type 0} where
 pub passes : (number place : ℕ) (t : Bool) (file : List ℕ) → t ≡ true → require number place t file ≡ good tt file
 unfolding require
 passes number place t file e = rw e
+
+pub fails : {B : Type 0} (number place : ℕ) (t : Bool) (file : List ℕ) (next : Unit {0} → Reader B) → t ≡ false → carry (require number place t file) next ≡ bad number place
+unfolding carry require
+fails number place t file next e = rw e
+
+-- two tests of one refusal are one
+pub both : {B : Type 0} (number place : ℕ) (a b : Bool) (file : List ℕ) (next : Unit {0} → Reader B)
+    → carry (require number place a file) (λ _ rest. carry (require number place b rest) next) ≡ carry (require number place (a && b) file) next
+unfolding carry require
+both number place true b file next = refl
+both number place false b file next = refl
 
 pub bytes-back : (number place n : ℕ) (a b : List ℕ) → n ≡ length a → next-bytes number place n (a ++ b) ≡ good a b
 unfolding next-bytes

@@ -1,0 +1,20 @@
+-- Which bound rule an edge breaks, and the edges of a table by position. Assumes nothing.
+use Prim.Native.Nat.{ℕ}
+use mathlib.Core.Bool.{cond, _&&_}
+use mathlib.Core.List.{List}
+use Rattle.regions.specs.Edge.{Edge}
+use Rattle.regions.specs.Checks.{every}
+use Rattle.tables.specs.Admission.{guard-bounded, constant-bounded, clock-bounded, each-update}
+use Rattle.tables.specs.Edge.{edge-at, after-edge, Stands}
+use Rattle.tables.specs.Skips.{values, AllAt}
+
+-- 5, else 6, or 0 for none
+unfoldable pub broken-rule : List ℕ → Edge → ℕ
+broken-rule c e = cond (every (guard-bounded c) (e .guards) && each-update constant-bounded c e) (cond (each-update clock-bounded c e) 0 6) 5
+
+-- the m edges whose records stand from p on
+abbrev pub edges-at : ℕ → List ℕ → ℕ → ℕ → List Edge
+edges-at n file m p = values (edge-at n file) (after-edge n file) m p
+
+abbrev pub AllStand : ℕ → List ℕ → ℕ → ℕ → Type 0
+AllStand n file m p = AllAt (Stands n file) (after-edge n file) m p

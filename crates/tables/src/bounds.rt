@@ -1,0 +1,160 @@
+// The bound rules of an admitted table, edge by edge.
+ghost use mathlib.Core.Path.{_≡_};
+ghost use Prim.Native.Nat.{_+_, _≤_};
+ghost use lib.ListN.{length, drop};
+ghost use Rattle.regions.specs.Clocks.{at};
+ghost use Rattle.regions.specs.Checks.{every};
+ghost use Rattle.regions.specs.Values.{bounds-of, guard-of, action-of, edge-of};
+ghost use Rattle.tables.specs.Admission.{guard-bounded, constant-bounded, clock-bounded, each-update, edges-bounded};
+ghost use Rattle.tables.specs.Scan.{Scanned};
+ghost use Rattle.tables.specs.Bounds.{broken-rule, edges-at, AllStand};
+use crate::admission::Head;
+use crate::decode::after_edge;
+use crate::decode::edge_from;
+use crate::scan::Scan;
+use crate::scan::reached;
+use crate::scan::refused;
+use regions::edge::Action;
+use regions::edge::Edge;
+use regions::edge::Guard;
+use regions::region::Clocks;
+
+// The bound of a clock, 0 past the last.
+fn bound(clocks: Clocks, z: u8) -> u16
+    requires { ⌜ clocks .count ≤ 4 ⌝ }
+    ensures { λ r. ⌜ r ≡ at (bounds-of clocks) z ⌝ }
+{
+    if clocks.count <= z {
+        return 0;
+    }
+    clocks.bounds[z as usize]
+}
+
+// Whether a guard's constant is within its clock's bound.
+fn guard_bounded(g: Guard, clocks: Clocks) -> bool
+    requires { ⌜ clocks .count ≤ 4 ⌝ }
+    ensures { λ r. ⌜ r ≡ guard-bounded (bounds-of clocks) (guard-of g) ⌝ }
+{
+    g.constant <= bound(clocks, g.clock)
+}
+
+// Whether each guard's constant is.
+fn guards_bounded(e: Edge, clocks: Clocks) -> bool
+    requires { ⌜ clocks .count ≤ 4 ⌝ }
+    requires { ⌜ e .«guard_count» ≤ 8 ⌝ }
+    ensures { λ r. ⌜ r ≡ every (guard-bounded (bounds-of clocks)) (edge-of (clocks .count) e .guards) ⌝ }
+{
+    let n = e.guard_count as usize;
+    let mut i = 0;
+    while i < n {
+        let g = e.guards[i];
+        if !guard_bounded(g, clocks) {
+            return false;
+        }
+        i += 1;
+    }
+    true
+}
+
+// Whether the constant that clock z is updated to, if any, is within its bound.
+fn constant_bounded(a: Action, z: u8, clocks: Clocks) -> bool
+    requires { ⌜ clocks .count ≤ 4 ⌝ }
+    ensures { λ r. ⌜ r ≡ constant-bounded (bounds-of clocks) z (action-of a) ⌝ }
+{
+    match a {
+        Action::Keep => true,
+        Action::Constant(k) => k <= bound(clocks, z),
+        Action::Clock(_, _, _) => true,
+    }
+}
+
+// Whether each clock's is.
+fn constants_bounded(e: Edge, clocks: Clocks) -> bool
+    requires { ⌜ clocks .count ≤ 4 ⌝ }
+    ensures { λ r. ⌜ r ≡ each-update constant-bounded (bounds-of clocks) (edge-of (clocks .count) e) ⌝ }
+{
+    let n = clocks.count;
+    let mut z: u8 = 0;
+    while z < n {
+        let u = e.updates[z as usize];
+        let a = u.action;
+        if !constant_bounded(a, z, clocks) {
+            return false;
+        }
+        z += 1;
+    }
+    true
+}
+
+// Whether the clock that clock z is updated from, if any, has a bound that is great enough.
+fn clock_bounded(a: Action, z: u8, clocks: Clocks) -> bool
+    requires { ⌜ clocks .count ≤ 4 ⌝ }
+    ensures { λ r. ⌜ r ≡ clock-bounded (bounds-of clocks) z (action-of a) ⌝ }
+{
+    match a {
+        Action::Keep => true,
+        Action::Constant(_) => true,
+        Action::Clock(y, up, down) => {
+            (bound(clocks, z) as u32) + (down as u32) <= (bound(clocks, y) as u32) + (up as u32)
+        }
+    }
+}
+
+// Whether each clock's has.
+fn clocks_bounded(e: Edge, clocks: Clocks) -> bool
+    requires { ⌜ clocks .count ≤ 4 ⌝ }
+    ensures { λ r. ⌜ r ≡ each-update clock-bounded (bounds-of clocks) (edge-of (clocks .count) e) ⌝ }
+{
+    let n = clocks.count;
+    let mut z: u8 = 0;
+    while z < n {
+        let u = e.updates[z as usize];
+        let a = u.action;
+        if !clock_bounded(a, z, clocks) {
+            return false;
+        }
+        z += 1;
+    }
+    true
+}
+
+// The number of the bound rule that an edge breaks, or 0.
+fn broken_rule(e: Edge, clocks: Clocks) -> u8
+    requires { ⌜ clocks .count ≤ 4 ⌝ }
+    requires { ⌜ e .«guard_count» ≤ 8 ⌝ }
+    ensures { λ r. ⌜ r ≡ broken-rule (bounds-of clocks) (edge-of (clocks .count) e) ⌝ }
+{
+    if !guards_bounded(e, clocks) {
+        return 5;
+    }
+    if !constants_bounded(e, clocks) {
+        return 5;
+    }
+    if !clocks_bounded(e, clocks) {
+        return 6;
+    }
+    0
+}
+
+// Looks for the first edge that breaks a bound rule, from the first edge's record on.
+pub fn edges_bounded(file: &[u8], at: usize, head: Head) -> Scan
+    requires { ⌜ head .clocks .count ≤ 4 ⌝ }
+    requires { ⌜ head .edges ≤ 256 ⌝ }
+    requires { ⌜ AllStand (head .clocks .count) (now file) (head .edges) at ⌝ }
+    ensures { λ r. ⌜ Scanned (now (file .entry)) (edges-bounded (bounds-of (head .clocks)) (1 + head .locations) (edges-at (head .clocks .count) (now (file .entry)) (head .edges) at) (drop (length (now (file .entry))) (now (file .entry)))) r ⌝ }
+{
+    let clocks = head.clocks;
+    let n = clocks.count;
+    let mut here = at;
+    let mut place = 1 + (head.locations as u16);
+    let stop = place + head.edges;
+    while place < stop {
+        let number = broken_rule(edge_from(file, here, n), clocks);
+        if number != 0 {
+            return refused(number, place);
+        }
+        here = after_edge(file, here, n);
+        place += 1;
+    }
+    reached(file.len())
+}
