@@ -14,3 +14,5 @@ pub mod Checks
 pub mod Walk
 pub mod Values
 pub mod Order
+pub mod Move
+pub mod Placing

@@ -5,3 +5,4 @@ pub mod edge; // guards, updates, edges
 pub mod guard; // guards in a region
 pub mod order; // the order of regions
 pub mod wait; // the time successor
+pub mod clock_move; // one clock's move
