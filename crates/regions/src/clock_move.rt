@@ -1,4 +1,9 @@
 // One clock's move: what its update asks of the clock's new interval, and of the place of its new fractional part among the old ones.
+use crate::comparison;
+use crate::edge::Action;
+use crate::edge::Update;
+use crate::region::Clocks;
+use crate::region::Region;
 ghost use mathlib.Core.Path.{_≡_};
 ghost use mathlib.Core.Bool.{_&&_};
 ghost use Prim.Native.Nat.{_+_, _*_, _-_, _%_, _<_, _≤_};
@@ -8,11 +13,6 @@ ghost use Rattle.regions.specs.Edge.{BoundedBy};
 ghost use Rattle.regions.specs.Successors.{least};
 ghost use Rattle.regions.specs.Values.{Few, bounds-of, row-of, update-of};
 ghost use Rattle.regions.specs.Move.{move-of, fits-at, permitsb, Stretch};
-use super::comparison;
-use super::edge::Action;
-use super::edge::Update;
-use super::region::Clocks;
-use super::region::Region;
 
 // The new interval plus shift stands in the comparison to the reference, the old clock's interval with what is added; what is taken away
 // stands on the new interval's side, so that nothing is ever negative. Equal odd intervals leave the order to the new part's place and

@@ -6,3 +6,4 @@ pub mod guard; // guards in a region
 pub mod order; // the order of regions
 pub mod wait; // the time successor
 pub mod clock_move; // one clock's move
+pub mod placing; // the places of the new parts among the old ones

@@ -2,7 +2,6 @@
 -- Assumes nothing.
 use Prim.Native.Nat.{ℕ, zero, suc, _+_, _*_, _-_, _≤_, _<_, _%_, compare, Ordering, Ordering·lt, Ordering·eq, Ordering·gt}
 use native.Mathlib.Nat.{add-zero}
-use native.Mathlib.Decide.{ℕ-discrete}
 use native.Mathlib.Omega.{arith}
 use mathlib.Core.Path.{_≡_, refl, sym, ap, _∙_}
 use mathlib.Core.Bool.{Bool, true, false, _&&_, _||_, or-true}
@@ -15,7 +14,7 @@ use Rattle.regions.specs.Comparison.{answer, holds, some-answer}
 use Rattle.regions.specs.Clocks.{at}
 use Rattle.regions.specs.Row.{Row}
 use Rattle.regions.specs.Edge.{Action, keep, constant, clock, Update, BoundedBy}
-use Rattle.regions.specs.Successors.{Rel, fixed, free, parts, relation, rel, comparison-of, fits, least}
+use Rattle.regions.specs.Successors.{Rel, fixed, free, parts, relation, rel, comparison-of, fits}
 use Rattle.regions.specs.Move.{move-of, rel-of, fits-at, fits-somewhere, permitsb, Stretch}
 use Rattle.regions.specs.Values.{bounds-of, row-of, update-of}
 use Rattle.regions.specs.declared.clock_move.Move.{Move}
@@ -177,28 +176,3 @@ module _ (m : Move) (i : ℕ) (low : i ≤ m .top) where
     within = omega arith;
     alike = λ j l h. permits-above m j (λ e. omega arith) (omega arith) ∙ sym (permits-above m i (λ e. omega arith) (omega arith));
   }
-
--- the least number that passes, found by leaps ----------------------------------------------------------------------------------------
-
-module _ (t : ℕ → Bool) (end : ℕ) where
-  pub least-here : (k : ℕ) → k < end → t k ≡ true → least t (end - k) k ≡ k
-  unfolding least
-  least-here k h e = let n : end - k ≡ suc (end - suc k) = omega arith in rw (n, e)
-
-  pub least-none : (k : ℕ) → end ≤ k → least t (end - k) k ≡ k
-  unfolding least
-  least-none k h = let n : end - k ≡ 0 = omega arith in rw n
-
-  leap : (k d : ℕ) → k + d ≤ end → ((j : ℕ) → k ≤ j → j < k + d → t j ≡ false) → least t (end - k) k ≡ least t (end - (k + d)) (k + d)
-  unfolding least
-  leap k zero h f = rw add-zero
-  leap k (suc d) h f =
-      let n : end - k ≡ suc (end - suc k) = omega arith in
-      let s : suc k + d ≡ k + suc d = omega arith in
-      let off : t k ≡ false = f k (omega arith) (omega arith) in
-      rw (n, off) (leap (suc k) d (omega arith) (λ j a b. f j (omega arith) (omega arith)) ∙ ap (λ (x : ℕ). least t (end - x) x) s)
-
-  pub least-leap : (k l : ℕ) → k ≤ l → l ≤ end → ((j : ℕ) → k ≤ j → j < l → t j ≡ false) → least t (end - k) k ≡ least t (end - l) l
-  least-leap k l h e f =
-      let s : k + (l - k) ≡ l = omega arith in
-      leap k (l - k) (omega arith) (λ j a b. f j a (omega arith)) ∙ ap (λ (x : ℕ). least t (end - x) x) s

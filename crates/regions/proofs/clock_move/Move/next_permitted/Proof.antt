@@ -3,7 +3,7 @@ use Rattle.regions.specs.Successors.{least}
 use mathlib.Core.Path.{_≡_, refl, sym, _∙_}
 use Prim.Native.Nat.{_+_, _-_}
 use native.Mathlib.Omega.{arith}
-use Rattle.regions.proofs.Laws.Move.{least-here, least-none, least-leap}
+use Rattle.regions.proofs.Laws.Least.{least-here, least-none, least-leap}
 use borrow.Author.Needs.{needs}
 use Rattle.regions.proofs.clock_move.Move.next_permitted.Statement.{statement}
 use Rattle.regions.proofs.clock_move.Move.next_permitted.Tie as tie

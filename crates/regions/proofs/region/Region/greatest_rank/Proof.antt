@@ -43,6 +43,57 @@ returns : tie.Need-returns Inv-loop μ-loop
 returns c =
     let e : c .before .loop .z ≡ c .before .before .before .args .clocks .count = omega arith in
     rw e at (c .before .loop .inv .1)
+use mathlib.Core.Logic.{⊎-elim}
+use Rattle.regions.specs.Clocks.{at, greatest}
+use mathlib.Core.Path.{_≡_, refl, sym, _∙_}
+use lib.ListN.{length, take}
+use Prim.Native.Nat.{_+_, _-_, _≤_, max}
+use native.Mathlib.Numerals.{add-one}
+use native.Mathlib.Omega.{arith}
+use Rattle.regions.proofs.Laws.Placing.{greatest-more}
+use borrow.Author.Needs.{needs}
+use Rattle.regions.proofs.region.Region.greatest_rank.Statement.{statement}
+use Rattle.regions.proofs.region.Region.greatest_rank.Tie as tie
+use Rattle.regions.proofs.region.Region.greatest_rank.Reads as reads
+use Rattle.regions.proofs.region.Region.greatest_rank.Lts as lts
+
+abbrev Inv-loop : tie.InvT-loop
+Inv-loop count self rank₀ z₀ rank z = (z ≤ count) × (rank ≡ greatest (take z (self .ranks)))
+
+abbrev μ-loop : tie.MeasureT-loop
+μ-loop count self rank₀ z₀ rank z = count - z
+
+-- src/placing.rt:26:9
+loop-holds : tie.Need-loop-holds Inv-loop μ-loop
+loop-holds c = search needs
+
+-- src/placing.rt:27:23
+element-copy-out-if1 : tie.Need-element-copy-out-if1 Inv-loop μ-loop
+element-copy-out-if1 c = search needs
+
+-- src/placing.rt:28:24
+element-copy-out-rank : tie.Need-element-copy-out-rank Inv-loop μ-loop
+element-copy-out-rank c = search needs
+
+-- src/placing.rt:30:13
+add-z : tie.Need-add-z Inv-loop μ-loop
+add-z c = search needs
+
+-- src/placing.rt:26:9
+loop-less : tie.Need-loop-less Inv-loop μ-loop
+loop-less c = search needs
+
+-- src/placing.rt:26:9
+loop-again : tie.Need-loop-again Inv-loop μ-loop
+loop-again c = let ks = c .before .before .before .before .args .t1 .ranks in
+    let long : length ks ≡ 4 = search needs in
+    let z = c .before .before .before .loop .z in
+    let more : greatest (take (z + 1) ks) ≡ max (greatest (take z ks)) (at ks z) = rw add-one (greatest-more z ks (omega arith)) in
+    (omega arith, ⊎-elim (λ w. omega arith) (λ w. omega arith) (c .if1 .came))
+
+-- src/placing.rt:20:5
+returns : tie.Need-returns Inv-loop μ-loop
+returns c = let e : c .before .loop .z ≡ c .before .before .args .count = omega arith in rw e at (c .before .loop .inv .1)
 
 pub greatest-rank-spec : {M : Type 1} → statement M
 greatest-rank-spec =
@@ -54,6 +105,9 @@ greatest-rank-spec =
     loop-holds
     element-copy-out-greater
     greater-requires
+    loop-holds
+    element-copy-out-if1
+    element-copy-out-rank
     add-z
     loop-less
     loop-again
