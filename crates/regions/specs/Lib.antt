@@ -16,3 +16,4 @@ pub mod Values
 pub mod Order
 pub mod Move
 pub mod Placing
+pub mod Choice

@@ -7,3 +7,4 @@ pub mod order; // the order of regions
 pub mod wait; // the time successor
 pub mod clock_move; // one clock's move
 pub mod placing; // the places of the new parts among the old ones
+pub mod choice; // the choices of an edge's walk

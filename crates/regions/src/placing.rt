@@ -17,7 +17,7 @@ pub struct Moves {
 
 impl Region {
     // The greatest rank of the first clocks, 0 if they have none.
-    pub fn greatest_rank(self, count: usize) -> u8
+    pub fn greatest_rank_of(self, count: usize) -> u8
         requires { ⌜ count ≤ 4 ⌝ }
         ensures { λ r. ⌜ r ≡ greatest (take count (self .ranks)) ⌝ }
     {
@@ -102,6 +102,6 @@ impl Moves {
         if !self.rank_fits(part, count, 0, 0) {
             return false;
         }
-        self.least_position(part, count, part.greatest_rank(count)) <= 2 * self.ranks
+        self.least_position(part, count, part.greatest_rank_of(count)) <= 2 * self.ranks
     }
 }

@@ -14,14 +14,14 @@ use Rattle.regions.specs.Clocks.{at, allb, greatest}
 use Rattle.regions.specs.Row.{Row}
 use Rattle.regions.specs.Edge.{Edge, idle, Bounded}
 use Rattle.regions.specs.Successors.{clock-fits, rank-fits, least, greedy, placedb}
-use Rattle.regions.specs.Move.{move-of, fits-at}
+use Rattle.regions.specs.Move.{move-of, fits-at, permitsb}
 use Rattle.regions.specs.Placing.{still, clock-fits-at, rank-fits-at, greedy-at, placed-at}
 use Rattle.regions.specs.declared.clock_move.Move.{Move}
 use Rattle.regions.proofs.Laws.Tests.{Says, and-law, leb-law, allb-law}
 use Rattle.regions.proofs.Laws.Lists.{at-greatest}
 use Rattle.regions.proofs.Laws.Values.{at-take}
 use Rattle.regions.proofs.Laws.Leads.{Least, least-is}
-use Rattle.regions.proofs.Laws.Move.{move-fits}
+use Rattle.regions.proofs.Laws.Move.{fits-permits, move-fits}
 
 -- the greatest rank of one clock more
 pub greatest-more : (z : ℕ) (ks : List ℕ) → z < length ks → greatest (take (suc z) ks) ≡ max (greatest (take z ks)) (at ks z)
@@ -155,6 +155,33 @@ module _ (ms : List Move) (g n m : ℕ) (js ks js′ ks′ : List ℕ) (l : m �
     where
       both : (b : Bool) (p : ℕ) → Says (b && leb p (2 * g)) ((b ≡ true) × (p ≤ 2 * g))
       both b p = and-law b (leb p (2 * g)) (λ e. e, λ e. e) (leb-law p (2 * g))
+
+-- what is placed fits somewhere
+module _ (ms : List Move) (g n : ℕ) (js ks : List ℕ) (h : placed-at ms g n js ks ≡ true) where
+  abbrev t : ℕ → ℕ → Bool
+  t = rank-fits-at ms n js ks
+
+  whole : (t 0 0 ≡ true) × (greedy-at t g (greatest (take n ks)) ≤ 2 * g)
+  unfolding placed-at
+  whole = and-law (t 0 0) (leb (greedy-at t g (greatest (take n ks))) (2 * g)) (λ e. e, λ e. e) (leb-law (greedy-at t g (greatest (take n ks))) (2 * g)) .0 h
+
+  its-position : (a : ℕ) → a ≤ greatest (take n ks) → t a (greedy-at t g a) ≡ true
+  unfolding greedy-at
+  its-position zero l = whole .0
+  its-position (suc a) l =
+      let p : ℕ = greedy-at t g a in
+      let low : least (t (suc a)) (2 * g + 1 - (p + p % 2)) (p + p % 2) ≤ 2 * g
+      = omega (arith, greedy-rising t g (suc a) (greatest (take n ks)) l, whole .1) in
+      least-is (t (suc a)) (2 * g + 1 - (p + p % 2)) (p + p % 2) .passes (omega arith)
+
+  pub placed-permits : (z : ℕ) → z < n → permitsb (getD ms z still) (at js z) ≡ true
+  unfolding rank-fits-at
+  placed-permits z l =
+      let a : ℕ = at ks z in
+      let low : a ≤ greatest (take n ks) = omega (arith, at-take n ks z l, at-greatest (take n ks) z) in
+      let fits : clock-fits-at ms js ks a (greedy-at t g a) z ≡ true
+      = allb-law n (clock-fits-at ms js ks a (greedy-at t g a)) (λ z. (λ e. e, λ e. e)) .0 (its-position a low) z l in
+      fits-permits (getD ms z still) (at js z) (greedy-at t g a) (its-rank ms js ks a (greedy-at t g a) z refl ∙ fits)
 
 -- the moves of an edge ----------------------------------------------------------------------------------------------------------------
 

@@ -52,10 +52,10 @@ use native.Mathlib.Numerals.{add-one}
 use native.Mathlib.Omega.{arith}
 use Rattle.regions.proofs.Laws.Placing.{greatest-more}
 use borrow.Author.Needs.{needs}
-use Rattle.regions.proofs.region.Region.greatest_rank.Statement.{statement}
-use Rattle.regions.proofs.region.Region.greatest_rank.Tie as tie
-use Rattle.regions.proofs.region.Region.greatest_rank.Reads as reads
-use Rattle.regions.proofs.region.Region.greatest_rank.Lts as lts
+use Rattle.regions.proofs.region.Region.greatest_rank_of.Statement.{statement}
+use Rattle.regions.proofs.region.Region.greatest_rank_of.Tie as tie
+use Rattle.regions.proofs.region.Region.greatest_rank_of.Reads as reads
+use Rattle.regions.proofs.region.Region.greatest_rank_of.Lts as lts
 
 abbrev Inv-loop : tie.InvT-loop
 Inv-loop count self rank₀ z₀ rank z = (z ≤ count) × (rank ≡ greatest (take z (self .ranks)))
@@ -95,8 +95,8 @@ loop-again c = let ks = c .before .before .before .before .args .t1 .ranks in
 returns : tie.Need-returns Inv-loop μ-loop
 returns c = let e : c .before .loop .z ≡ c .before .before .args .count = omega arith in rw e at (c .before .loop .inv .1)
 
-pub greatest-rank-spec : {M : Type 1} → statement M
-greatest-rank-spec =
+pub greatest-rank-of-spec : {M : Type 1} → statement M
+greatest-rank-of-spec =
     tie.close
     (tie.spec
     Inv-loop
