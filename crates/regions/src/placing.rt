@@ -1,13 +1,17 @@
 // The places of the new fractional parts among the old ones: for each new rank a position, after those of the ranks before it, where all clocks
 // of that rank fit. Position 2 q - 1 is at rank q's old part, position 2 q between that and the next.
 use crate::clock_move::Move;
+use crate::edge::Edge;
+use crate::region::Clocks;
 use crate::region::Region;
 ghost use mathlib.Core.Path.{_≡_};
-ghost use Prim.Native.Nat.{_+_, _*_, _-_, _≤_, _<_};
-ghost use lib.ListN.{take};
-ghost use Rattle.regions.specs.Clocks.{greatest};
+ghost use Prim.Native.Nat.{ℕ, _+_, _*_, _-_, _≤_, _<_};
+ghost use lib.ListN.{getD, take};
+ghost use Rattle.regions.specs.Clocks.{allb, greatest};
+ghost use Rattle.regions.specs.Edge.{Bounded};
 ghost use Rattle.regions.specs.Successors.{least};
-ghost use Rattle.regions.specs.Placing.{clock-fits-at, rank-fits-at, greedy-at, placed-at};
+ghost use Rattle.regions.specs.Values.{Few, bounds-of, row-of, edge-of};
+ghost use Rattle.regions.specs.Placing.{still, clock-fits-at, rank-fits-at, greedy-at, placed-at, some-permitted, MovesOf};
 
 // What an edge's updates ask of the new region: how many ranks the old one has, and each clock's move.
 pub struct Moves {
@@ -31,9 +35,53 @@ impl Region {
         }
         rank
     }
+
+    // What an edge's updates ask of each clock, from this region.
+    pub fn moves(self, clocks: Clocks, e: Edge) -> Moves
+        requires { ⌜ Few clocks ⌝ }
+        requires { ⌜ Bounded (bounds-of clocks) (edge-of (clocks .count) e) ⌝ }
+        ensures { λ r. ⌜ MovesOf (bounds-of clocks) (edge-of (clocks .count) e) (row-of (clocks .count) self) r ⌝ }
+    {
+        let n = clocks.count as usize;
+        let still = Move {
+            comparison: 0,
+            shift: 0,
+            reference: 0,
+            rank: 0,
+            top: 0,
+        };
+        let mut each = [still; 4];
+        let mut z = 0;
+        while z < n {
+            let update = e.updates[z];
+            each[z] = self.clock_move(clocks, z, update);
+            z += 1;
+        }
+        Moves {
+            ranks: self.greatest_rank_of(n),
+            each: each,
+        }
+    }
 }
 
 impl Moves {
+    // Whether each of the first clocks has an interval that its move permits.
+    pub fn all_permit(self, count: usize) -> bool
+        requires { ⌜ count ≤ 4 ⌝ }
+        requires { ⌜ ((z : ℕ) → z < count → getD (self .each) z still .top < 65535) ⌝ }
+        ensures { λ r. ⌜ r ≡ allb count (some-permitted (self .each)) ⌝ }
+    {
+        let mut z = 0;
+        while z < count {
+            let asked = self.each[z];
+            if asked.top < asked.next_permitted(0) {
+                return false;
+            }
+            z += 1;
+        }
+        true
+    }
+
     // Whether clock z of the new region has another rank, or fits at the position.
     fn clock_fits(self, part: Region, z: usize, rank: u8, position: u8) -> bool
         requires { ⌜ z < 4 ⌝ }

@@ -97,7 +97,7 @@ module _ (s : Search) (ready : Ready s) (four : length (s .clocks .bounds) ≡ 4
       pub go-on : (r : Sought) (k′ : ℕ) → Answers (Goal s further (i + 1) tight′) r → r .found ≡ false → Skips s part i (k + 1) k′ → Choosing s part i tight k′
       go-on r k′ a g skips = record {
         low = λ x q. skips .over x (q .held) (q .agrees) (none-here n (Candidate s) sized (numbers-of s (s .floor)) (numbers-of s part) (long (s .floor) floor) (long part fours) i tight (way .along) within k (at-k .low) (at-k .from) tight′ f
-        (none-answer Q (Wanted (Candidate s) (numbers-of s (s .floor)) (set (numbers-of s part) i k) (i + 1) tight′) r (rw changed at a) g) x q);
+            (none-answer Q (Wanted (Candidate s) (numbers-of s (s .floor)) (set (numbers-of s part) i k) (i + 1) tight′) r (rw changed at a) g) x q);
         from = λ t. omega (arith, at-k .from t, skips .on);
       }
 
@@ -123,6 +123,6 @@ module _ (s : Search) (ready : Ready s) (four : length (s .clocks .bounds) ≡ 4
           (record {
             is-row = isrowb-law (bounds-of (s .clocks)) (row-of n part) .0 g;
             placed = placed-less (s .moves .each) (s .moves .ranks) n n (part .intervals) (part .ranks) (take n (part .intervals)) (take n (part .ranks)) (omega arith)
-            (λ z l. (sym (at-take n (part .intervals) z l), sym (at-take n (part .ranks) z l))) (not-stuck s ready four part (fours .intervals) i h ended);
+                (λ z l. (sym (at-take n (part .intervals) z l), sym (at-take n (part .ranks) z l))) (not-stuck s ready four part (fours .intervals) i h ended);
           });
     }
