@@ -6,8 +6,8 @@ use crate::region::Clocks;
 use crate::region::Region;
 ghost use mathlib.Core.Path.{_≡_};
 ghost use Prim.Native.Nat.{ℕ, _+_, _*_, _-_, _≤_, _<_};
-ghost use lib.ListN.{getD, take};
-ghost use Rattle.regions.specs.Clocks.{allb, greatest};
+ghost use lib.ListN.{getD};
+ghost use Rattle.regions.specs.Clocks.{allb};
 ghost use Rattle.regions.specs.Edge.{Bounded};
 ghost use Rattle.regions.specs.Successors.{least};
 ghost use Rattle.regions.specs.Values.{Few, bounds-of, row-of, edge-of};
@@ -20,22 +20,6 @@ pub struct Moves {
 }
 
 impl Region {
-    // The greatest rank of the first clocks, 0 if they have none.
-    pub fn greatest_rank_of(self, count: usize) -> u8
-        requires { ⌜ count ≤ 4 ⌝ }
-        ensures { λ r. ⌜ r ≡ greatest (take count (self .ranks)) ⌝ }
-    {
-        let mut rank = 0;
-        let mut z = 0;
-        while z < count {
-            if rank < self.ranks[z] {
-                rank = self.ranks[z];
-            }
-            z += 1;
-        }
-        rank
-    }
-
     // What an edge's updates ask of each clock, from this region.
     pub fn moves(self, clocks: Clocks, e: Edge) -> Moves
         requires { ⌜ Few clocks ⌝ }

@@ -23,12 +23,6 @@ use Rattle.regions.proofs.Laws.Values.{at-take}
 use Rattle.regions.proofs.Laws.Leads.{Least, least-is}
 use Rattle.regions.proofs.Laws.Move.{fits-permits, move-fits}
 
--- the greatest rank of one clock more
-pub greatest-more : (z : ℕ) (ks : List ℕ) → z < length ks → greatest (take (suc z) ks) ≡ max (greatest (take z ks)) (at ks z)
-greatest-more z [] h = absurd (omega arith)
-greatest-more zero (k ∷ ks) h = omega arith
-greatest-more (suc z) (k ∷ ks) h = let e : greatest (take (suc z) ks) ≡ max (greatest (take z ks)) (at ks z) = greatest-more z ks (omega arith) in omega arith
-
 -- one clock
 module _ (ms : List Move) (js ks : List ℕ) (a p z : ℕ) where
   pub other-rank : (at ks z ≡ a → ⊥) → true ≡ clock-fits-at ms js ks a p z
