@@ -15,3 +15,6 @@ pub mod Meeting
 pub mod Walk
 pub mod Values
 pub mod Order
+pub mod Move
+pub mod Placing
+pub mod Choice

@@ -5,3 +5,7 @@ pub mod edge; // guards, updates, edges
 pub mod guard; // guards in a region
 pub mod order; // the order of regions
 pub mod wait; // the time successor
+pub mod clock_move; // one clock's move
+pub mod placing; // the places of the new parts among the old ones
+pub mod choice; // the choices of an edge's walk
+pub mod walk; // the walk over an edge's next regions

@@ -11,7 +11,7 @@ ghost use Rattle.regions.specs.Values.{row-of};
 
 impl Region {
     // Number i of the region of n clocks: the location, an interval or a rank.
-    fn number(self, n: usize, i: usize) -> u16
+    pub fn number(self, n: usize, i: usize) -> u16
         requires { ⌜ n ≤ 4 ⌝ }
         requires { ⌜ i < 1 + 2 * n ⌝ }
         ensures { λ r. ⌜ r ≡ at (numbers (row-of n self)) i ⌝ }

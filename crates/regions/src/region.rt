@@ -42,7 +42,7 @@ pub fn missing() -> Sought
 }
 
 // Whether the interval lies strictly between two whole values up to the bound.
-fn is_open(bound: u16, interval: u16) -> bool
+pub fn is_open(bound: u16, interval: u16) -> bool
     requires { ⌜ bound ≤ 16383 ⌝ }
     ensures { λ r. ⌜ r ≡ openb bound interval ⌝ }
 {

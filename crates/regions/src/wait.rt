@@ -5,6 +5,7 @@ use crate::region::Sought;
 use crate::region::missing;
 ghost use mathlib.Core.Path.{_≡_};
 ghost use Prim.Native.Nat.{_≤_, max};
+ghost use lib.ListN.{take};
 ghost use Rattle.regions.specs.Clocks.{greatest};
 ghost use Rattle.regions.specs.Row.{IsRow};
 ghost use Rattle.regions.specs.Wait.{evenb, entersb, some-evenb, growsb, leave-interval, leave-rank, left, arrive-interval, arrive-rank, arrived, wait};
@@ -132,19 +133,26 @@ impl Region {
         false
     }
 
+    // The greatest rank of the first clocks, 0 if they have none.
+    pub fn greatest_rank_of(self, count: usize) -> u8
+        requires { ⌜ count ≤ 4 ⌝ }
+        ensures { λ r. ⌜ r ≡ greatest (take count (self .ranks)) ⌝ }
+    {
+        let mut g = 0;
+        let mut z = 0;
+        while z < count {
+            g = greater(g, self.ranks[z]);
+            z += 1;
+        }
+        g
+    }
+
     // The greatest rank.
     fn greatest_rank(self, clocks: Clocks) -> u8
         requires { ⌜ clocks .count ≤ 4 ⌝ }
         ensures { λ r. ⌜ r ≡ greatest (row-of (clocks .count) self .ranks) ⌝ }
     {
-        let n = clocks.count as usize;
-        let mut g = 0;
-        let mut z = 0;
-        while z < n {
-            g = greater(g, self.ranks[z]);
-            z += 1;
-        }
-        g
+        self.greatest_rank_of(clocks.count as usize)
     }
 
     // The region after the clocks with whole values have left them.

@@ -2,55 +2,58 @@ use Prim.Native.Nat.{_≤_, _-_}
 use native.Mathlib.Omega.{arith}
 use mathlib.Core.Path.{_≡_, refl}
 use lib.ListN.{length, take}
-use borrow.Author.Needs.{needs}
 use Rattle.regions.specs.Clocks.{greatest}
 use Rattle.regions.proofs.Laws.WaitTests.{greatest-more}
-use Rattle.regions.proofs.region.Region.greatest_rank.Statement.{statement}
-use Rattle.regions.proofs.region.Region.greatest_rank.Tie as tie
+use borrow.Author.Needs.{needs}
+use Rattle.regions.proofs.region.Region.greatest_rank_of.Statement.{statement}
+use Rattle.regions.proofs.region.Region.greatest_rank_of.Tie as tie
+use Rattle.regions.proofs.region.Region.greatest_rank_of.Reads as reads
+use Rattle.regions.proofs.region.Region.greatest_rank_of.Lts as lts
+use Rattle.regions.proofs.wait.greater.Reads as greater-reads
 
 abbrev Inv-loop : tie.InvT-loop
-Inv-loop self n g₀ z₀ g z = (z ≤ n) × (g ≡ greatest (take z (self .ranks)))
+Inv-loop count self g₀ z₀ g z = (z ≤ count) × (g ≡ greatest (take z (self .ranks)))
 
 abbrev μ-loop : tie.MeasureT-loop
-μ-loop self n g₀ z₀ g z = n - z
+μ-loop count self g₀ z₀ g z = count - z
 
-cast-n : tie.Need-cast-n Inv-loop μ-loop
-cast-n c = search needs
-
+-- src/wait.rt:143:9
 loop-holds : tie.Need-loop-holds Inv-loop μ-loop
 loop-holds c = (search needs, refl)
 
+-- src/wait.rt:144:28
 element-copy-out-greater : tie.Need-element-copy-out-greater Inv-loop μ-loop
 element-copy-out-greater c = search needs
 
+-- src/wait.rt:144:13
 greater-requires : tie.Need-greater-requires Inv-loop μ-loop
 greater-requires c κs = search needs
 
+-- src/wait.rt:145:13
 add-z : tie.Need-add-z Inv-loop μ-loop
 add-z c = search needs
 
+-- src/wait.rt:143:9
 loop-less : tie.Need-loop-less Inv-loop μ-loop
 loop-less c = search needs
 
+-- src/wait.rt:143:9
 loop-again : tie.Need-loop-again Inv-loop μ-loop
-loop-again c =
-    let ks = c .before .before .before .before .before .args .t1 .ranks in
+loop-again c = let ks = c .before .before .before .before .args .t1 .ranks in
     let long : length ks ≡ 4 = search needs in
     let i = c .before .before .before .loop .inv in
     (omega arith, rw (greatest-more ks (c .before .before .before .loop .z) (omega arith), ← i .1) (c .greater .ensures))
 
+-- src/wait.rt:137:5
 returns : tie.Need-returns Inv-loop μ-loop
-returns c =
-    let e : c .before .loop .z ≡ c .before .before .before .args .clocks .count = omega arith in
-    rw e at (c .before .loop .inv .1)
+returns c = let e : c .before .loop .z ≡ c .before .before .args .count = omega arith in rw e at (c .before .loop .inv .1)
 
-pub greatest-rank-spec : {M : Type 1} → statement M
-greatest-rank-spec =
+pub greatest-rank-of-spec : {M : Type 1} → statement M
+greatest-rank-of-spec =
     tie.close
     (tie.spec
     Inv-loop
     μ-loop
-    cast-n
     loop-holds
     element-copy-out-greater
     greater-requires
