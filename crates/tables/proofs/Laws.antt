@@ -16,3 +16,4 @@ pub mod Edges
 pub mod Decode
 pub mod Bounds
 pub mod Opening
+pub mod Refusals

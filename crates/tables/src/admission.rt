@@ -1,6 +1,15 @@
 // The admission of a table file.
 ghost use mathlib.Core.Path.{_≡_};
-ghost use Rattle.tables.specs.Values.{Opens};
+ghost use mathlib.Core.List.{List};
+ghost use Prim.Native.Nat.{ℕ};
+ghost use Rattle.regions.specs.Row.{Row};
+ghost use Rattle.regions.specs.Automaton.{Admitted};
+ghost use Rattle.regions.specs.Run.{Reached};
+ghost use Rattle.regions.specs.Closed.{Closed, ExactlyOne};
+ghost use Rattle.tables.specs.Answer.{accepted};
+ghost use Rattle.tables.specs.Admission.{admission, table-of};
+ghost use Rattle.tables.specs.Values.{answer-of, Opens};
+use crate::answer::Answer;
 use crate::bounds::edges_bounded;
 use crate::edge::edges;
 use crate::header::header;
@@ -79,4 +88,17 @@ pub fn open(file: &[u8]) -> Opened
         return refusal(b.number, b.place);
     }
     fine(head)
+}
+
+// Admits a table, or refuses it.
+pub fn admission(file: &[u8]) -> Answer
+    ensures answer { λ r. ⌜ answer-of r ≡ admission (now (file .entry)) ⌝ }
+    ensures admitted { λ r. ⌜ ((k : ℕ) → answer-of r ≡ accepted k → Admitted (table-of (now (file .entry))) × ExactlyOne (Reached (table-of (now (file .entry)))) ((rows : List Row) × Closed (table-of (now (file .entry))) rows)) ⌝ }
+{
+    let opened = open(file);
+    if opened.number != 0 {
+        return Answer::Refused(opened.number, opened.place);
+    }
+    let head = opened.head;
+    Answer::Accepted(1 + (head.locations as u16) + head.edges)
 }
