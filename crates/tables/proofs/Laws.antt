@@ -17,4 +17,6 @@ pub mod Locations
 pub mod Edges
 pub mod Decode
 pub mod Bounds
+pub mod Described
 pub mod Opening
+pub mod Refusals

@@ -1,12 +1,12 @@
 -- Which bound rule an edge breaks, and the edges of a table by position. Assumes nothing.
-use Prim.Native.Nat.{ℕ}
+use Prim.Native.Nat.{ℕ, _+_, _*_}
 use mathlib.Core.Bool.{cond, _&&_}
 use mathlib.Core.List.{List}
 use Rattle.regions.specs.Edge.{Edge}
 use Rattle.regions.specs.Checks.{every}
 use Rattle.tables.specs.Admission.{guard-bounded, constant-bounded, clock-bounded, each-update}
 use Rattle.tables.specs.Edge.{edge-at, after-edge, Stands}
-use Rattle.tables.specs.Skips.{values, AllAt}
+use Rattle.tables.specs.Skips.{skip, values, AllAt}
 
 -- 5, else 6, or 0 for none
 unfoldable pub broken-rule : List ℕ → Edge → ℕ
@@ -18,3 +18,7 @@ edges-at n file m p = values (edge-at n file) (after-edge n file) m p
 
 abbrev pub AllStand : ℕ → List ℕ → ℕ → ℕ → Type 0
 AllStand n file m p = AllAt (Stands n file) (after-edge n file) m p
+
+-- where edge i's record begins, in a table of n clocks and L locations
+abbrev pub edge-start : ℕ → ℕ → List ℕ → ℕ → ℕ
+edge-start n L file i = skip (after-edge n file) i (7 + n + 3 * L)

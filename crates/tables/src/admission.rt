@@ -1,10 +1,25 @@
 // The admission of a table file.
 ghost use mathlib.Core.Path.{_≡_};
-ghost use Rattle.tables.specs.Values.{Opens};
+ghost use mathlib.Core.List.{List};
+ghost use Prim.Native.Nat.{ℕ, _<_, _≤_};
+ghost use Rattle.regions.specs.Row.{Row};
+ghost use Rattle.regions.specs.Automaton.{edge, final, Admitted};
+ghost use Rattle.regions.specs.Values.{edge-of};
+ghost use Rattle.regions.specs.Run.{Reached};
+ghost use Rattle.regions.specs.Closed.{Closed, ExactlyOne};
+ghost use Rattle.tables.specs.Answer.{accepted};
+ghost use Rattle.tables.specs.Admission.{admission, table-of};
+ghost use Rattle.tables.specs.Values.{answer-of, Describes, Opens};
+ghost use Rattle.tables.specs.Bounds.{edge-start};
+use crate::answer::Answer;
 use crate::bounds::edges_bounded;
+use crate::decode::after_edge;
+use crate::decode::edge_from;
 use crate::edge::edges;
 use crate::header::header;
 use crate::location::locations;
+use crate::record::part;
+use regions::edge::Edge;
 use regions::region::Clocks;
 
 // What the records of an admitted table are read by: the clocks, how many locations and edges there are, and the initial location.
@@ -79,4 +94,57 @@ pub fn open(file: &[u8]) -> Opened
         return refusal(b.number, b.place);
     }
     fine(head)
+}
+
+// Whether a location of an admitted table is final.
+pub fn is_final(file: &[u8], head: Head, location: u8) -> bool
+    requires { ⌜ Describes (now file) head ⌝ }
+    requires { ⌜ location < head .locations ⌝ }
+    ensures { λ r. ⌜ r ≡ final (table-of (now (file .entry))) location ⌝ }
+{
+    let clocks = head.clocks;
+    let at = 7 + (clocks.count as usize) + 3 * (location as usize);
+    let bytes = part(file, at, 3);
+    bytes[2] % 2 == 1
+}
+
+// Where an edge's record begins.
+fn edge_start(file: &[u8], head: Head, number: u16) -> usize
+    requires { ⌜ Describes (now file) head ⌝ }
+    requires { ⌜ number < head .edges ⌝ }
+    ensures { λ r. ⌜ r ≡ edge-start (head .clocks .count) (head .locations) (now (file .entry)) number ⌝ }
+{
+    let clocks = head.clocks;
+    let n = clocks.count;
+    let mut at = 7 + (n as usize) + 3 * (head.locations as usize);
+    let mut i: u16 = 0;
+    while i < number {
+        at = after_edge(file, at, n);
+        i += 1;
+    }
+    at
+}
+
+// An edge of an admitted table, by value.
+pub fn edge_at(file: &[u8], head: Head, number: u16) -> Edge
+    requires { ⌜ Describes (now file) head ⌝ }
+    requires { ⌜ number < head .edges ⌝ }
+    ensures means { λ r. ⌜ edge-of (head .clocks .count) r ≡ edge (table-of (now (file .entry))) number ⌝ }
+    ensures few { λ r. ⌜ r .«guard_count» ≤ 8 ⌝ }
+{
+    let clocks = head.clocks;
+    edge_from(file, edge_start(file, head, number), clocks.count)
+}
+
+// Admits a table, or refuses it.
+pub fn admission(file: &[u8]) -> Answer
+    ensures answer { λ r. ⌜ answer-of r ≡ admission (now (file .entry)) ⌝ }
+    ensures admitted { λ r. ⌜ ((k : ℕ) → answer-of r ≡ accepted k → Admitted (table-of (now (file .entry))) × ExactlyOne (Reached (table-of (now (file .entry)))) ((rows : List Row) × Closed (table-of (now (file .entry))) rows)) ⌝ }
+{
+    let opened = open(file);
+    if opened.number != 0 {
+        return Answer::Refused(opened.number, opened.place);
+    }
+    let head = opened.head;
+    Answer::Accepted(1 + (head.locations as u16) + head.edges)
 }

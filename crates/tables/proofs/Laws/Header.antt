@@ -20,8 +20,8 @@ use Rattle.tables.specs.TableFile.{Header, header}
 use Rattle.tables.specs.Header.{counts-in-range, low, Copied, header-from, HeadOf, Headed}
 use Rattle.tables.specs.declared.admission.Head.{Head}
 use Rattle.tables.specs.declared.admission.Opened.{Opened}
-use Rattle.tables.proofs.Laws.Reading.{itself, between-law, goes, passes, fails, both}
-use Rattle.tables.proofs.Laws.Parts.{Found, Taken, record-found, record-lacks, bytes-found, bytes-lack}
+use Rattle.tables.proofs.Laws.Reading.{Took, itself, parts, tested, took, took-record, between-law, goes, passes, fails, both}
+use Rattle.tables.proofs.Laws.Parts.{Found, Taken, record-found, record-lacks, bytes-found, bytes-lack, TookPart, took-part}
 
 -- the bounds as an array -----------------------------------------------------------------------------------------------------
 
@@ -145,3 +145,22 @@ module _ (file b : List ℕ) (is : b ≡ record-at file 0 7 TA) (o : Opened) whe
             let t = taken file b is there counts c part bounds-there in
             let n : at b 2 ≡ k .clocks .count = sym (t .sized) ∙ sym (p .count) in
             rw (bounds-pass file b is there counts c part bounds-there h, e) (z, p, (λ i. drop (7 + n i) file), omega (arith, t .fits))
+
+-- by position
+pub header-left : (file : List ℕ) (h : Header) (rest : List ℕ) → header file ≡ good h rest → rest ≡ drop (7 + length (h .bounds)) file
+unfolding header
+header-left file h rest e =
+    parts _ _ e λ b f1 e1 h1.
+    tested _ _ _ _ _ h1 λ t2 h2.
+    tested _ _ _ _ _ h2 λ t3 h3.
+    tested _ _ _ _ _ h3 λ t4 h4.
+    tested _ _ _ _ _ h4 λ t5 h5.
+    parts _ _ h5 λ c f6 e6 h6.
+    tested _ _ _ _ _ h6 λ t7 h7.
+    let first : TookPart file 0 7 b f1 = took-part (λ z. absurd (omega arith)) refl (took-record 1 0 TA 7 file e1 .0) in
+    let others : Took (at b 2) f1 c f6 = took 1 0 (at b 2) f1 e6 in
+    let bounds : TookPart file 7 (at b 2) c f6 = took-part (λ z. first .fits) (first .leaves) others in
+    let l : f6 ≡ rest = cc in
+    let cs : c ≡ h .bounds = cc in
+    let n : at b 2 ≡ length (h .bounds) = sym (others .sized) ∙ ap length cs in
+    sym l ∙ bounds .leaves ∙ (λ i. drop (7 + n i) file)

@@ -184,5 +184,5 @@ module _ (file : List ℕ) (k : Head) (b : Begun file k) (l : Scan) (locations :
             pub opened : s .number ≡ 0 → (o : Opened) → (o .number ≡ 0) × (o .head ≡ k) → Opens file o
             opened z o h = rw (admitted-with z) (h .0, rw (h .1) (describes z))
 
-pub opens-refused : (file : List ℕ) (o : Opened) {number place : ℕ} → admitted file ≡ bad number place → (o .number ≡ number) × (o .place ≡ place) → Opens file o
-opens-refused file o e h = rw e h
+pub opens-as : (file : List ℕ) (o : Opened) {number place : ℕ} → admitted file ≡ bad number place → (o .number ≡ number) × (o .place ≡ place) → Opens file o
+opens-as file o e h = rw e h

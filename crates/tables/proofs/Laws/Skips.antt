@@ -1,5 +1,6 @@
 -- Records that were read, by position: what the i-th says, and where it begins. Assumes nothing.
 use Prim.Native.Nat.{ℕ, zero, suc, _+_, _*_, _≤_, _<_}
+use native.Mathlib.Numerals.{add-one}
 use native.Mathlib.Omega.{arith}
 use mathlib.Core.Path.{_≡_, refl, sym, ap, _∙_}
 use mathlib.Core.List.{List, [], _∷_}
@@ -52,11 +53,18 @@ stands-th P after zero p i h w = absurd (omega arith)
 stands-th P after (suc m) p zero h w = w .0
 stands-th P after (suc m) p (suc i) h w = stands-th P after m (after p) i (omega arith) (w .1)
 
--- one more
-pub skip-last : (after : ℕ → ℕ) (i p : ℕ) → after (skip after i p) ≡ skip after (suc i) p
+-- none, and one more
+pub skip-none : (after : ℕ → ℕ) (p : ℕ) → p ≡ skip after 0 p
+unfolding skip
+skip-none after p = refl
+
+skip-last : (after : ℕ → ℕ) (i p : ℕ) → after (skip after i p) ≡ skip after (suc i) p
 unfolding skip
 skip-last after zero p = refl
 skip-last after (suc i) p = skip-last after i (after p)
+
+pub skip-one : (after : ℕ → ℕ) (i p : ℕ) {q r : ℕ} → q ≡ skip after i p → r ≡ after q → r ≡ skip after (i + 1) p
+skip-one after i p e f = f ∙ ap after e ∙ skip-last after i p ∙ ap (λ (n : ℕ). skip after n p) (sym (add-one i))
 
 -- records of three bytes
 pub skip-threes : (i p : ℕ) → skip (λ (q : ℕ). q + 3) i p ≡ p + 3 * i

@@ -1,7 +1,7 @@
 use mathlib.Core.Path.{refl}
 use native.Mathlib.Omega.{arith}
 use denote.Ref.{now}
-use Rattle.tables.proofs.Laws.Opening.{begun, not-begun, locations-refused, edges-begin, edges-refused, edges-stand, bytes-follow, bounds-refused, opened, opens-refused}
+use Rattle.tables.proofs.Laws.Opening.{begun, not-begun, locations-refused, edges-begin, edges-refused, edges-stand, bytes-follow, bounds-refused, opened, opens-as}
 use borrow.Author.Needs.{needs}
 use Rattle.tables.proofs.admission.open.Statement.{statement}
 use Rattle.tables.proofs.admission.open.Tie as tie
@@ -20,7 +20,7 @@ header-requires c κs = search needs
 
 -- src/admission.rt:61:9
 returns : tie.Need-returns
-returns c = opens-refused _ _ (not-begun _ _ (c .before .before .header .ensures) (c .if1 .taken)) (refl, refl)
+returns c = opens-as _ _ (not-begun _ _ (c .before .before .header .ensures) (c .if1 .taken)) (refl, refl)
 
 -- src/admission.rt:65:34
 cast-locations : tie.Need-cast-locations
@@ -40,7 +40,7 @@ refusal-requires c κs = search needs
 
 -- src/admission.rt:67:9
 returns-2 : tie.Need-returns-2
-returns-2 c = opens-refused _ _ (locations-refused _ _ (begun (now (c .before .before .before .before .before .before .before .before .before .before .before .args .file)) (c .before .before .before .before .before .before .before .before .before .header .result) (c .before .before .before .before .before .before .before .before .before .header .ensures) (c .before .before .before .before .before .before .before .if1 .left)) (c .before .before .before .locations .result) (c .before .before .before .locations .ensures) (c .before .if2 .taken)) (c .refusal .ensures)
+returns-2 c = opens-as _ _ (locations-refused _ _ (begun (now (c .before .before .before .before .before .before .before .before .before .before .before .args .file)) (c .before .before .before .before .before .before .before .before .before .header .result) (c .before .before .before .before .before .before .before .before .before .header .ensures) (c .before .before .before .before .before .before .before .if1 .left)) (c .before .before .before .locations .result) (c .before .before .before .locations .ensures) (c .before .if2 .taken)) (c .refusal .ensures)
 
 -- src/admission.rt:70:9
 edges-requires : tie.Need-edges-requires
@@ -52,7 +52,7 @@ refusal-requires-2 c κs = search needs
 
 -- src/admission.rt:72:9
 returns-3 : tie.Need-returns-3
-returns-3 c = opens-refused _ _ (edges-refused _ _ (begun (now (c .before .before .before .before .before .before .before .before .before .before .before .before .before .before .args .file)) (c .before .before .before .before .before .before .before .before .before .before .before .before .header .result) (c .before .before .before .before .before .before .before .before .before .before .before .before .header .ensures) (c .before .before .before .before .before .before .before .before .before .before .if1 .left)) (c .before .before .before .before .before .before .locations .result) (c .before .before .before .before .before .before .locations .ensures) (c .before .before .before .before .if2 .left) (c .before .before .before .edges .result) (c .before .before .before .edges .ensures) (c .before .if3 .taken)) (c .refusal2 .ensures)
+returns-3 c = opens-as _ _ (edges-refused _ _ (begun (now (c .before .before .before .before .before .before .before .before .before .before .before .before .before .before .args .file)) (c .before .before .before .before .before .before .before .before .before .before .before .before .header .result) (c .before .before .before .before .before .before .before .before .before .before .before .before .header .ensures) (c .before .before .before .before .before .before .before .before .before .before .if1 .left)) (c .before .before .before .before .before .before .locations .result) (c .before .before .before .before .before .before .locations .ensures) (c .before .before .before .before .if2 .left) (c .before .before .before .edges .result) (c .before .before .before .edges .ensures) (c .before .if3 .taken)) (c .refusal2 .ensures)
 
 -- src/admission.rt:75:32
 cast-refusal : tie.Need-cast-refusal
@@ -73,7 +73,7 @@ refusal-requires-3 c κs = search needs
 
 -- src/admission.rt:75:9
 returns-4 : tie.Need-returns-4
-returns-4 c = opens-refused _ _ (bytes-follow _ _ (begun (now (c .before .before .before .before .before .before .before .before .before .before .before .before .before .before .before .before .before .before .args .file)) (c .before .before .before .before .before .before .before .before .before .before .before .before .before .before .before .before .header .result) (c .before .before .before .before .before .before .before .before .before .before .before .before .before .before .before .before .header .ensures) (c .before .before .before .before .before .before .before .before .before .before .before .before .before .before .if1 .left)) (c .before .before .before .before .before .before .before .before .before .before .locations .result) (c .before .before .before .before .before .before .before .before .before .before .locations .ensures) (c .before .before .before .before .before .before .before .before .if2 .left) (c .before .before .before .before .before .before .before .edges .result) (c .before .before .before .before .before .before .before .edges .ensures) (c .before .before .before .before .before .if3 .left) (c .before .before .before .if4 .taken)) (c .refusal3 .ensures)
+returns-4 c = opens-as _ _ (bytes-follow _ _ (begun (now (c .before .before .before .before .before .before .before .before .before .before .before .before .before .before .before .before .before .before .args .file)) (c .before .before .before .before .before .before .before .before .before .before .before .before .before .before .before .before .header .result) (c .before .before .before .before .before .before .before .before .before .before .before .before .before .before .before .before .header .ensures) (c .before .before .before .before .before .before .before .before .before .before .before .before .before .before .if1 .left)) (c .before .before .before .before .before .before .before .before .before .before .locations .result) (c .before .before .before .before .before .before .before .before .before .before .locations .ensures) (c .before .before .before .before .before .before .before .before .if2 .left) (c .before .before .before .before .before .before .before .edges .result) (c .before .before .before .before .before .before .before .edges .ensures) (c .before .before .before .before .before .if3 .left) (c .before .before .before .if4 .taken)) (c .refusal3 .ensures)
 
 -- src/admission.rt:77:9
 edges-bounded-requires : tie.Need-edges-bounded-requires
@@ -86,7 +86,7 @@ refusal-requires-4 c κs = search needs
 
 -- src/admission.rt:79:9
 returns-5 : tie.Need-returns-5
-returns-5 c = opens-refused _ _ (bounds-refused _ _ (begun (now (c .before .before .before .before .before .before .before .before .before .before .before .before .before .before .before .before .before .before .before .args .file)) (c .before .before .before .before .before .before .before .before .before .before .before .before .before .before .before .before .before .header .result) (c .before .before .before .before .before .before .before .before .before .before .before .before .before .before .before .before .before .header .ensures) (c .before .before .before .before .before .before .before .before .before .before .before .before .before .before .before .if1 .left)) (c .before .before .before .before .before .before .before .before .before .before .before .locations .result) (c .before .before .before .before .before .before .before .before .before .before .before .locations .ensures) (c .before .before .before .before .before .before .before .before .before .if2 .left) (c .before .before .before .before .before .before .before .before .edges .result) (c .before .before .before .before .before .before .before .before .edges .ensures) (c .before .before .before .before .before .before .if3 .left) (c .before .before .before .before .if4 .left) (c .before .before .before .edges-bounded .result) (c .before .before .before .edges-bounded .ensures) (c .before .if5 .taken)) (c .refusal4 .ensures)
+returns-5 c = opens-as _ _ (bounds-refused _ _ (begun (now (c .before .before .before .before .before .before .before .before .before .before .before .before .before .before .before .before .before .before .before .args .file)) (c .before .before .before .before .before .before .before .before .before .before .before .before .before .before .before .before .before .header .result) (c .before .before .before .before .before .before .before .before .before .before .before .before .before .before .before .before .before .header .ensures) (c .before .before .before .before .before .before .before .before .before .before .before .before .before .before .before .if1 .left)) (c .before .before .before .before .before .before .before .before .before .before .before .locations .result) (c .before .before .before .before .before .before .before .before .before .before .before .locations .ensures) (c .before .before .before .before .before .before .before .before .before .if2 .left) (c .before .before .before .before .before .before .before .before .edges .result) (c .before .before .before .before .before .before .before .before .edges .ensures) (c .before .before .before .before .before .before .if3 .left) (c .before .before .before .before .if4 .left) (c .before .before .before .edges-bounded .result) (c .before .before .before .edges-bounded .ensures) (c .before .if5 .taken)) (c .refusal4 .ensures)
 
 -- src/admission.rt:81:5
 fine-requires : tie.Need-fine-requires
