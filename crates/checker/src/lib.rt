@@ -1,2 +1,13 @@
-// The checks over a table and a second file: definitions and laws so far.
-pub fn nothing() {}
+// The checks over a table and a second file.
+pub mod row; // row records, by value
+pub mod row_writer; // a region's row record, written
+pub mod step; // one step of a run: guards, updates, the state after it
+pub mod run; // the run list
+pub mod listed; // the rows of a region list
+pub mod list_records; // reading a region list
+pub mod list_order; // its order and its locations
+pub mod next_rows; // what follows each of its rows
+pub mod region_list; // the check of a region list
+pub mod follow; // following one region
+pub mod verdict; // what is said of a table and a paper
+pub mod c; // the calls of a host program in C

@@ -29,7 +29,7 @@ nobody : {A : Type 0} (xs : List A) → ((a : A) → Mem a xs → ⊥) → xs �
 nobody [] h = refl
 nobody (x ∷ xs) h = absurd (h x (List·Memᴰ·head refl))
 
-getD-any : {A : Type 0} (xs : List A) (i : ℕ) → i < length xs → (d d′ : A) → getD xs i d ≡ getD xs i d′
+pub getD-any : {A : Type 0} (xs : List A) (i : ℕ) → i < length xs → (d d′ : A) → getD xs i d ≡ getD xs i d′
 getD-any [] i h d d′ = absurd (omega arith)
 getD-any (x ∷ xs) zero h d d′ = refl
 getD-any (x ∷ xs) (suc i) h d d′ = getD-any xs i (omega arith) d d′

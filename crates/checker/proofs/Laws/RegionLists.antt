@@ -30,7 +30,7 @@ use Rattle.checker.proofs.Laws.Rows.{RowsRead, rows-read-law, file-back
 
 -- 14 to 16 -------------------------------------------------------------------------------------------------------------------
 
-ascends : (place : ℕ) (rows : List Row) (f : List ℕ) {u : Unit {0}} {left : List ℕ} → ascending place rows f ≡ good u left → Ascends rows
+pub ascends : (place : ℕ) (rows : List Row) (f : List ℕ) {u : Unit {0}} {left : List ℕ} → ascending place rows f ≡ good u left → Ascends rows
 unfolding ascending
 ascends place [] f h = tt
 ascends place (r ∷ []) f h = tt

@@ -1,0 +1,44 @@
+-- What the program prints, from the answers. Assumes nothing.
+use Prim.Native.Nat.{ℕ, zero, suc, _≤_, _<_}
+use Prim.Native.String.{String}
+use native.Mathlib.Omega.{arith}
+use mathlib.Core.Path.{_≡_, refl, sym, ap, _∙_}
+use mathlib.Core.Bool.{Bool, true, false, cond}
+use mathlib.Core.List.{List, [], _∷_}
+use lib.ListN.{length, take, drop}
+use lib.Dec.{leb, eqb}
+use borrow.Author.Tests.{le-leb, lt-leb}
+use Rattle.regions.specs.Checks.{same}
+use Rattle.tables.specs.Bytes.{RN}
+use Rattle.tables.specs.Answer.{Answer}
+use Rattle.tables.specs.Records.{part-at, record-at}
+use Rattle.tables.proofs.Laws.Records.{mark-short}
+use Rattle.checker.specs.RunFile.{run-answer}
+use Rattle.checker.specs.RegionFile.{ListAnswer}
+use Rattle.checker.specs.Program.{printed, PrintedFor, Printed}
+use Rattle.checker.proofs.Laws.Prefix.{printed-prefix}
+
+-- the record of two bytes is there just if the file begins with the mark
+pub marked : (file : List ℕ) → eqb (length (record-at file 0 2 RN)) 2 ≡ same RN (take 2 file)
+unfolding record-at part-at
+marked [] = refl
+marked (x ∷ []) = sym (mark-short RN (x ∷ []) refl (omega arith))
+marked (x ∷ (y ∷ file)) = rw (le-leb 2 (length (x ∷ (y ∷ file))) (omega arith)) (go (same RN (x ∷ (y ∷ []))))
+  where
+    go : (b : Bool) → eqb (length (cond b (x ∷ (y ∷ [])) [])) 2 ≡ b
+    go true = refl
+    go false = refl
+
+module _ (table file : List ℕ) (line : String) where
+  -- the files themselves, and files that begin so
+  abbrev pub Told : Type 0
+  Told = Printed table file line × ((t p : List ℕ) → table ≡ take 65536 t → file ≡ take 65536 p → Printed t p line)
+
+  told : Printed table file line → Told
+  told h = (h, λ t p e f. printed-prefix t p line (rw (e, f) at h))
+
+  pub run-told : same RN (take 2 file) ≡ true → line ≡ printed "REACHED" (run-answer table file) → Told
+  run-told e h = told (rw e h)
+
+  pub list-told : same RN (take 2 file) ≡ false → (a : Answer) → ListAnswer table file a → line ≡ printed "EMPTY" a → Told
+  list-told e a l h = told (rw e (a, l, h))

@@ -1,0 +1,25 @@
+use denote.Ref.{now}
+use Rattle.tables.specs.Values.{answer-of}
+use Rattle.checker.proofs.Laws.RegionCall.{packed-promises}
+use borrow.Author.Needs.{needs}
+use Rattle.checker.proofs.c.tzelmaruf_check_regions.Statement.{statement}
+use Rattle.checker.proofs.c.tzelmaruf_check_regions.Tie as tie
+use Rattle.checker.proofs.c.tzelmaruf_check_regions.Reads as reads
+use Rattle.checker.proofs.c.tzelmaruf_check_regions.Lts as lts
+use Rattle.checker.proofs.region_list.check_regions.Reads as check-regions-reads
+use Rattle.tables.proofs.answer.packed.Reads as packed-reads
+
+-- src/c.rt:26:12
+check-regions-requires : tie.Need-check-regions-requires
+check-regions-requires c κs = search needs
+
+-- src/c.rt:26:5
+packed-requires : tie.Need-packed-requires
+packed-requires c κs = search needs
+
+-- src/c.rt:19:1
+returns : tie.Need-returns
+returns c = packed-promises (now (c .before .before .before .before .args .table)) (now (c .before .before .before .before .args .list)) (answer-of (c .before .check-regions .result)) _ (c .packed .ensures) (c .before .check-regions .ensures)
+
+pub tzelmaruf-check-regions-spec : {M : Type 1} → statement M
+tzelmaruf-check-regions-spec = tie.close (tie.spec check-regions-requires packed-requires returns)

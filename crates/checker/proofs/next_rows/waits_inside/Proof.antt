@@ -1,0 +1,30 @@
+use denote.Ref.{now}
+use Rattle.regions.specs.Checks.{has}
+use Rattle.checker.specs.Listed.{listed-rows}
+use Rattle.checker.proofs.Laws.NextRows.{wait-found, wait-missing}
+use borrow.Author.Needs.{needs}
+use Rattle.checker.proofs.next_rows.waits_inside.Statement.{statement}
+use Rattle.checker.proofs.next_rows.waits_inside.Tie as tie
+use Rattle.checker.proofs.next_rows.waits_inside.Reads as reads
+use Rattle.checker.proofs.next_rows.waits_inside.Lts as lts
+use Rattle.checker.proofs.listed.is_listed.Reads as is-listed-reads
+use Rattle.regions.proofs.region.Region.wait.Reads as wait-reads
+
+-- src/next_rows.rt:31:9
+wait-requires : tie.Need-wait-requires
+wait-requires c κs = (c .before .pre .0 .few, c .before .pre .1 .1)
+
+-- src/next_rows.rt:34:9
+is-listed-requires : tie.Need-is-listed-requires
+is-listed-requires c κs = search needs
+
+-- src/next_rows.rt:34:9
+returns : tie.Need-returns
+returns c = wait-found _ _ (c .before .before .before .before .before .pre .0 .sized) (has (listed-rows (c .before .before .before .before .before .args .clocks .count) (now (c .before .before .before .before .before .args .list)) (c .before .before .before .before .before .args .count))) _ (c .before .before .before .before .before .pre .1 .1) _ (c .before .before .before .wait .ensures) (c .before .before .if1 .taken) _ (c .is-listed .ensures)
+
+-- src/next_rows.rt:25:1
+returns-2 : tie.Need-returns-2
+returns-2 c = wait-missing _ _ (c .before .before .before .pre .0 .sized) (has (listed-rows (c .before .before .before .args .clocks .count) (now (c .before .before .before .args .list)) (c .before .before .before .args .count))) _ (c .before .before .before .pre .1 .1) _ (c .before .wait .ensures) (c .if1 .left)
+
+pub waits-inside-spec : {M : Type 1} → statement M
+waits-inside-spec = tie.close (tie.spec wait-requires is-listed-requires returns returns-2)

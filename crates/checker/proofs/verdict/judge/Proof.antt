@@ -1,0 +1,56 @@
+use Rattle.checker.proofs.Laws.Verdict.{run-told, list-told}
+use Rattle.checker.specs.Program.{printed}
+use Rattle.tables.specs.Answer.{Answer}
+use Rattle.tables.specs.Values.{answer-of}
+use denote.Ref.{now}
+use mathlib.Core.Path.{_≡_, sym, ap, _∙_}
+use borrow.Author.Needs.{needs}
+use Rattle.checker.proofs.verdict.judge.Statement.{statement}
+use Rattle.checker.proofs.verdict.judge.Tie as tie
+use Rattle.checker.proofs.verdict.judge.Reads as reads
+use Rattle.checker.proofs.verdict.judge.Lts as lts
+use Rattle.checker.proofs.region_list.check_regions.Reads as check-regions-reads
+use Rattle.checker.proofs.run.check_run.Reads as check-run-reads
+use Rattle.checker.proofs.verdict.empty.Reads as empty-reads
+use Rattle.checker.proofs.verdict.is_run.Reads as is-run-reads
+use Rattle.checker.proofs.verdict.reached.Reads as reached-reads
+
+-- src/verdict.rt:56:8
+is-run-requires : tie.Need-is-run-requires
+is-run-requires c κs = search needs
+
+-- src/verdict.rt:57:24
+check-run-requires : tie.Need-check-run-requires
+check-run-requires c κs = search needs
+
+-- src/verdict.rt:57:9
+reached-requires : tie.Need-reached-requires
+reached-requires c κs = search needs
+
+-- src/verdict.rt:57:9
+returns : tie.Need-returns
+returns c = run-told _ _ _ (sym (c .before .before .before .is-run .ensures) ∙ c .before .before .if1 .taken) (c .reached .ensures ∙ ap (printed "REACHED") (c .before .check-run .ensures .0))
+
+-- src/verdict.rt:59:11
+check-regions-requires : tie.Need-check-regions-requires
+check-regions-requires c κs = search needs
+
+-- src/verdict.rt:59:5
+empty-requires : tie.Need-empty-requires
+empty-requires c κs = search needs
+
+-- src/verdict.rt:52:1
+returns-2 : tie.Need-returns-2
+returns-2 c = list-told _ _ _ (sym (c .before .before .before .is-run .ensures) ∙ c .before .before .if1 .left) (answer-of (c .before .check-regions .result)) (c .before .check-regions .ensures .0) (c .empty .ensures)
+
+pub judge-spec : {M : Type 1} → statement M
+judge-spec =
+    tie.close
+    (tie.spec
+    is-run-requires
+    check-run-requires
+    reached-requires
+    returns
+    check-regions-requires
+    empty-requires
+    returns-2)

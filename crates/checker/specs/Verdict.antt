@@ -1,0 +1,12 @@
+-- The line of a verdict. Assumes nothing.
+use Prim.Native.String.{String}
+use Rattle.tables.specs.Answer.{accepted, refused}
+use Rattle.checker.specs.Program.{printed}
+use Rattle.checker.specs.declared.verdict.Verdict.{Verdict}
+use Rattle.checker.specs.declared.verdict.Verdict.the-variants.{Reached, Empty, Refused}
+
+-- "`EMPTY 8` (verdict, rows)", "`REFUSED 11 2` (number, place)", "`REACHED 2` (steps)"
+abbrev pub line-of : Verdict → String
+line-of (Reached steps) = printed "REACHED" (accepted steps)
+line-of (Empty rows) = printed "EMPTY" (accepted rows)
+line-of (Refused number place) = printed "REFUSED" (refused number place)
