@@ -37,6 +37,7 @@ pub mod RunCode
 -- the calls together
 pub mod Claims
 pub mod RegionCall
+pub mod HostCalls
 -- the follower
 pub mod FollowWays
 -- the main theorems, and the examples

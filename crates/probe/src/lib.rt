@@ -2,8 +2,8 @@
 ghost use mathlib.Core.Path.{_≡_};
 ghost use Rattle.checker.specs.Follow.{follow-answer, follow-buffer};
 ghost use Rattle.probe.specs.Number.{number-of};
-use checker::follow::follow;
 use checker::follow::Followed;
+use checker::follow::follow;
 
 // The count of rows written; or 2^63 plus the refusal's number times 65,536 plus its place.
 #[no_mangle]
@@ -13,6 +13,8 @@ pub extern "C" fn tzelmaruf_follow(table: &[u8], row: &[u8], number: u16, buffer
 {
     match follow(table, row, number, buffer) {
         Followed::Written(count) => count as u64,
-        Followed::Refused(number, place) => 9223372036854775808 + (number as u64) * 65536 + (place as u64),
+        Followed::Refused(number, place) => 9223372036854775808
+            + (number as u64) * 65536
+            + (place as u64),
     }
 }

@@ -1,7 +1,7 @@
 // Reads table.tab and proof.prf from the working directory, and prints one line: the verdict. What is decided is decided in the library.
 ghost use Rattle.io.specs.Counts.{Counts};
-use checker::verdict::judge;
 use checker::verdict::Verdict;
+use checker::verdict::judge;
 use libc::STDOUT_FILENO;
 
 // The first bytes of a file, as many as the buffer holds, which is enough to tell (`judge`); none of a file that cannot be opened.

@@ -117,7 +117,7 @@ module _ (table list : List ℕ) (a : Answer) (bytes : AreBytes list) (h : ListA
 -- one number -------------------------------------------------------------------------------------------------------------------------------
 
 -- a number below 65,536 is a count
-count-only : (a : Answer) (k : ℕ) → Small a → k < 65536 → packed a ≡ k → a ≡ accepted k
+pub count-only : (a : Answer) (k : ℕ) → Small a → k < 65536 → packed a ≡ k → a ≡ accepted k
 count-only (accepted count) k s l e = ap accepted e
 count-only (refused number place) k (some, _, _) l e = absurd (omega arith)
 

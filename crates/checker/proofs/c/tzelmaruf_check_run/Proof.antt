@@ -1,16 +1,26 @@
--- The packed answer of the run check. Assumes nothing.
+use Rattle.checker.proofs.Laws.HostCalls.{run-promises}
+use Rattle.tables.specs.Values.{answer-of}
+use denote.Ref.{now}
 use borrow.Author.Needs.{needs}
 use Rattle.checker.proofs.c.tzelmaruf_check_run.Statement.{statement}
 use Rattle.checker.proofs.c.tzelmaruf_check_run.Tie as tie
+use Rattle.checker.proofs.c.tzelmaruf_check_run.Reads as reads
+use Rattle.checker.proofs.c.tzelmaruf_check_run.Lts as lts
+use Rattle.checker.proofs.run.check_run.Reads as check-run-reads
+use Rattle.tables.proofs.answer.packed.Reads as packed-reads
 
+-- src/c.rt:39:12
 check-run-requires : tie.Need-check-run-requires
 check-run-requires c κs = search needs
 
+-- src/c.rt:39:5
 packed-requires : tie.Need-packed-requires
 packed-requires c κs = search needs
 
+-- src/c.rt:33:1
 returns : tie.Need-returns
-returns c = rw (c .packed .ensures, c .before .check-run .ensures .0)
+returns c = let e = c .before .check-run .ensures in
+    run-promises (now (c .before .before .before .before .args .table)) (now (c .before .before .before .before .args .list)) (answer-of (c .before .check-run .result)) _ (c .packed .ensures) (e .0) (e .1 .0) (e .1 .1)
 
 pub tzelmaruf-check-run-spec : {M : Type 1} → statement M
 tzelmaruf-check-run-spec = tie.close (tie.spec check-run-requires packed-requires returns)

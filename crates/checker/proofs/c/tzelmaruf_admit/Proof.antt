@@ -1,0 +1,25 @@
+use Rattle.checker.proofs.Laws.HostCalls.{admission-promises}
+use Rattle.tables.specs.Answer.{packed}
+use mathlib.Core.Path.{ap, _∙_}
+use borrow.Author.Needs.{needs}
+use Rattle.checker.proofs.c.tzelmaruf_admit.Statement.{statement}
+use Rattle.checker.proofs.c.tzelmaruf_admit.Tie as tie
+use Rattle.checker.proofs.c.tzelmaruf_admit.Reads as reads
+use Rattle.checker.proofs.c.tzelmaruf_admit.Lts as lts
+use Rattle.tables.proofs.admission.admission.Reads as admission-reads
+use Rattle.tables.proofs.answer.packed.Reads as packed-reads
+
+-- src/c.rt:29:12
+admission-requires : tie.Need-admission-requires
+admission-requires c κs = search needs
+
+-- src/c.rt:29:5
+packed-requires : tie.Need-packed-requires
+packed-requires c κs = search needs
+
+-- src/c.rt:24:1
+returns : tie.Need-returns
+returns c = admission-promises _ _ (c .packed .ensures ∙ ap packed (c .before .admission .ensures .0))
+
+pub tzelmaruf-admit-spec : {M : Type 1} → statement M
+tzelmaruf-admit-spec = tie.close (tie.spec admission-requires packed-requires returns)
