@@ -54,6 +54,17 @@ impl Answer {
         }
     }
 
+    /// The answer that a packed number stands for.
+    pub fn unpacked(packed: u32) -> Answer {
+        match packed >> 16 {
+            0 => Answer::Accepted(packed),
+            number => Answer::Refused {
+                number: number.try_into().unwrap_or(u8::MAX),
+                place: packed as u16,
+            },
+        }
+    }
+
     pub fn is_accepted(self) -> bool {
         matches!(self, Answer::Accepted(_))
     }

@@ -4,19 +4,24 @@
 //! It shares no code with the checker it is compared with. Wherever a rule can
 //! be put in two ways, the plain way (by points) is kept beside the fast one
 //! (by intervals and ranks), and the tests hold one against the other.
+//!
+//! `library` calls the checker itself, and `compare` holds it against all this.
 
 pub mod admit;
 pub mod answer;
 pub mod automaton;
+pub mod compare;
 pub mod concrete;
 pub mod explore;
 pub mod follow;
 pub mod format;
 pub mod generate;
+pub mod library;
 pub mod region;
 pub mod region_list;
 pub mod run;
 pub mod successor;
+pub mod tally;
 pub mod verdict;
 
 pub use admit::admit;

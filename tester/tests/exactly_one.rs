@@ -1,12 +1,12 @@
 //! Of a run into a final location and a closed list a table has exactly one.
 
 mod common;
-use common::{hex, refused};
+use common::{far_automaton, hex, refused};
 
 use tzelmaruf_tester::answer::Answer;
 use tzelmaruf_tester::explore::{closure, closure_from, Closure};
 use tzelmaruf_tester::format::encode_table;
-use tzelmaruf_tester::generate::{lists, rows, seed, tables, Random, Shape};
+use tzelmaruf_tester::generate::{lists, rows, seed, Random};
 use tzelmaruf_tester::region::{all_rows, region_of, Region};
 use tzelmaruf_tester::region_list::{encode_regions, ListAnswer};
 use tzelmaruf_tester::run::{encode_run, Run};
@@ -52,40 +52,6 @@ impl Subject {
     fn check_rows(&self, rows: &[Region]) -> ListAnswer {
         check_regions(&self.table, &encode_regions(self.automaton.clocks(), rows))
     }
-}
-
-/// One final location, and in half the cases a chain of guarded edges as the
-/// only way to it, so that some runs are long.
-fn far_automaton(random: &mut Random) -> Automaton {
-    let locations = 1 + random.below(6);
-    let shape = Shape {
-        locations,
-        edges: locations + random.below(locations + 2),
-        greatest_guards: 3,
-        ..Shape::small(random)
-    };
-    let mut automaton = tables::admitted(random, shape);
-    let is_chain = random.once_in(2);
-    let last = match is_chain {
-        true => locations - 1,
-        false => random.below(locations),
-    };
-    for (number, location) in automaton.locations.iter_mut().enumerate() {
-        location.is_final = number == last;
-    }
-    if is_chain {
-        automaton.initial = 0;
-        for (number, edge) in automaton.edges.iter_mut().enumerate() {
-            let step = number % locations;
-            edge.source = step as u8;
-            edge.target = match number < locations {
-                true => (step + 1).min(last) as u8,
-                false => random.below(step + 1) as u8,
-            };
-            edge.guards.push(tables::guard(random, &automaton.bounds));
-        }
-    }
-    automaton
 }
 
 #[test]

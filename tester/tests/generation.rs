@@ -1,11 +1,10 @@
 //! The generated cases: files read back as written, every refusal number met,
-//! answers that hold together, and cases cheap enough for large comparisons.
+//! answers that hold together.
 
 mod common;
 use common::hex;
 
 use std::collections::BTreeMap;
-use std::time::Instant;
 use tzelmaruf_tester::answer::Answer;
 use tzelmaruf_tester::format::{encode_table, parse_table, Reader};
 use tzelmaruf_tester::generate::{
@@ -52,19 +51,11 @@ impl Tally {
 const CASES: usize = 60_000;
 const LARGE_ONCE_IN: usize = 50;
 
-/// 200,000 cases are to fit in two minutes with room for the other side.
-fn assert_cheap(call: &str, start: Instant) {
-    let micros = start.elapsed().as_micros() as usize / CASES;
-    println!("{call}: {micros} microseconds a case");
-    assert!(micros < 300, "{call}: {micros} microseconds a case");
-}
-
 #[test]
 fn admit_cases() {
     let seed = seed(20_501);
     println!("seed {seed}: {CASES} cases");
     let mut tally = Tally::default();
-    let start = Instant::now();
     for case in 0..CASES as u64 {
         let mut random = Random::of_case(seed, case);
         let table = admit_case(&mut random, LARGE_ONCE_IN);
@@ -74,7 +65,6 @@ fn admit_cases() {
             assert_eq!(encode_table(&automaton), table, "{}", hex(&table));
         }
     }
-    assert_cheap("admit", start);
     tally.assert_numbers("admit", 100, &[0, 1, 2, 3, 4, 5, 6]);
 }
 
@@ -83,7 +73,6 @@ fn run_cases() {
     let seed = seed(20_502);
     println!("seed {seed}: {CASES} cases");
     let mut tally = Tally::default();
-    let start = Instant::now();
     for case in 0..CASES as u64 {
         let mut random = Random::of_case(seed, case);
         let pair = run_case(&mut random, LARGE_ONCE_IN);
@@ -93,7 +82,6 @@ fn run_cases() {
             assert_eq!(encode_run(&run), pair.list, "{}", hex(&pair.list));
         }
     }
-    assert_cheap("check run", start);
     tally.assert_numbers(
         "check run",
         20,
@@ -106,7 +94,6 @@ fn regions_cases() {
     let seed = seed(20_503);
     println!("seed {seed}: {CASES} cases");
     let mut tally = Tally::default();
-    let start = Instant::now();
     for case in 0..CASES as u64 {
         let mut random = Random::of_case(seed, case);
         let pair = regions_case(&mut random, LARGE_ONCE_IN);
@@ -121,7 +108,6 @@ fn regions_cases() {
             assert_eq!(list, pair.list, "{}", hex(&pair.list));
         }
     }
-    assert_cheap("check regions", start);
     tally.assert_numbers(
         "check regions",
         20,
@@ -134,7 +120,6 @@ fn follow_cases() {
     let seed = seed(20_504);
     println!("seed {seed}: {CASES} cases");
     let mut tally = Tally::default();
-    let start = Instant::now();
     for case in 0..CASES as u64 {
         let mut random = Random::of_case(seed, case);
         let input = follow_case(&mut random, LARGE_ONCE_IN);
@@ -145,7 +130,6 @@ fn follow_cases() {
         let text = || format!("{} row {}", hex(&input.table), hex(&input.row));
         assert_eq!(buffer[written..], input.buffer[written..], "{}", text());
     }
-    assert_cheap("follow", start);
     tally.assert_numbers("follow", 20, &[0, 1, 2, 3, 4, 5, 6, 7, 8, 9, 18, 19]);
 }
 

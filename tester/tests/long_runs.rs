@@ -3,49 +3,16 @@
 mod common;
 use common::*;
 
-use std::time::{Duration, Instant};
 use tzelmaruf_tester::answer::Answer;
-use tzelmaruf_tester::automaton::{Automaton, Update};
+use tzelmaruf_tester::automaton::Update;
 use tzelmaruf_tester::concrete::ConcreteRun;
-use tzelmaruf_tester::explore::{closure, Move, PathStep};
+use tzelmaruf_tester::explore::closure;
 use tzelmaruf_tester::format::encode_table;
 use tzelmaruf_tester::generate::{seed, tables, Random, Shape};
 use tzelmaruf_tester::region::{all_rows, Region};
 use tzelmaruf_tester::region_list::encode_regions;
 use tzelmaruf_tester::run::encode_run;
-use tzelmaruf_tester::successor::NextRows;
 use tzelmaruf_tester::{check_regions, check_run};
-
-/// Random moves from the initial row that end with an edge, and its target.
-fn long_path(random: &mut Random, automaton: &Automaton, moves: usize) -> (Vec<PathStep>, u8) {
-    let mut row = Region::initial(automaton);
-    let mut path: Vec<PathStep> = Vec::new();
-    for _ in 0..moves {
-        let number = random.below(automaton.edges.len());
-        let edge = &automaton.edges[number];
-        let next: Vec<Region> = NextRows::new(automaton, edge, row).take(200).collect();
-        let step = if next.is_empty() {
-            let by = Move::Wait;
-            row.time_successor(&automaton.bounds)
-                .map(|to| PathStep { by, to })
-        } else {
-            let by = Move::Edge(number as u16);
-            let to = random.pick(&next);
-            Some(PathStep { by, to })
-        };
-        if let Some(step) = step {
-            row = step.to;
-            path.push(step);
-        }
-    }
-    while path.last().is_some_and(|step| step.by == Move::Wait) {
-        path.pop();
-    }
-    let end = path
-        .last()
-        .map_or(automaton.initial, |step| step.to.location());
-    (path, end)
-}
 
 #[test]
 fn long_paths_become_accepted_runs() {
@@ -103,12 +70,6 @@ fn longest_run() {
     assert_eq!(check_run(&table, &list), refused(12, 2_048));
 }
 
-fn assert_within(start: Instant, limit: Duration) {
-    let elapsed = start.elapsed();
-    println!("{elapsed:?}");
-    assert!(elapsed < limit, "{elapsed:?}");
-}
-
 /// 4,096 rows, the most a list has: 64 locations of 64 intervals, joined by 256 edges.
 #[test]
 fn longest_list() {
@@ -122,10 +83,8 @@ fn longest_list() {
     let table = encode_table(&automaton);
     let rows = all_rows(&automaton, 4_096).unwrap();
     assert_eq!(rows.len(), 4_096);
-    let start = Instant::now();
     let answer = check_regions(&table, &encode_regions(1, &rows));
     assert!(answer.permits(4_096));
-    assert_within(start, Duration::from_secs(5));
     let shorter = check_regions(&table, &encode_regions(1, &rows[..4_095]));
     assert_eq!(shorter.least().packed() >> 16, 17);
 }
@@ -160,25 +119,22 @@ fn many_edges_on_many_rows() {
         rows.len(),
         closure(&automaton, 4_096).rows.len()
     );
-    let start = Instant::now();
     let answer = check_regions(&table, &encode_regions(4, &rows));
     assert!(answer.permits(rows.len() as u32), "seed {seed}: {answer:?}");
-    assert_within(start, Duration::from_secs(5));
 }
 
-/// An edge with more next rows than could ever be counted is refused at once.
+/// An edge with some forty thousand million next rows: a count of them all
+/// would not end, so the test ends only if counting stops at the first row too many.
 #[test]
 fn counting_stops_early() {
     let wide = edge(0, 0, &[], &[constant(AtLeast, 0); 4]);
     let automaton = automaton(&[127; 4], &[false], vec![wide]);
     let table = encode_table(&automaton);
     let row = Region::initial(&automaton).record(4);
-    let start = Instant::now();
     let mut buffer = vec![0xAA; 11 * 4_096];
     let answer = tzelmaruf_tester::follow(&table, &row, 0, &mut buffer);
     assert_eq!(answer, refused(19, 0));
     assert!(buffer.iter().all(|byte| *byte == 0xAA));
     let list = encode_regions(4, &[Region::initial(&automaton)]);
     assert!(check_regions(&table, &list).permits(17 << 16 | 1));
-    assert_within(start, Duration::from_secs(1));
 }

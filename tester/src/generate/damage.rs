@@ -2,7 +2,7 @@
 
 use super::random::Random;
 
-const MARKS: [&[u8; 2]; 7] = [b"TA", b"LO", b"ED", b"RN", b"ST", b"RL", b"RW"];
+pub const MARKS: [&[u8; 2]; 7] = [b"TA", b"LO", b"ED", b"RN", b"ST", b"RL", b"RW"];
 
 /// Spoils a file in one random way; `other` is a file to mix in.
 pub fn damage(random: &mut Random, file: &[u8], other: &[u8]) -> Vec<u8> {

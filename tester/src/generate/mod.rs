@@ -9,6 +9,7 @@ pub mod damage;
 pub mod lists;
 pub mod random;
 pub mod rows;
+pub mod systematic;
 pub mod tables;
 
 pub use cases::{admit_case, follow_case, regions_case, run_case, FollowCase, PairCase};

@@ -1,9 +1,12 @@
-//! Short forms for hand-made automata and files.
+//! Short forms for hand-made automata and files, and random ones several tests share.
 #![allow(dead_code, unused_imports)]
 
 use tzelmaruf_tester::answer::Answer;
 use tzelmaruf_tester::automaton::*;
+use tzelmaruf_tester::explore::{Move, PathStep};
+use tzelmaruf_tester::generate::{tables, Random, Shape};
 use tzelmaruf_tester::region::Region;
+use tzelmaruf_tester::successor::NextRows;
 
 pub use tzelmaruf_tester::answer::hex;
 pub use tzelmaruf_tester::automaton::Comparison::{AtLeast, AtMost, Equal, Greater, Less};
@@ -69,4 +72,69 @@ pub fn bytes(text: &str) -> Vec<u8> {
         .chunks(2)
         .map(|pair| u8::from_str_radix(std::str::from_utf8(pair).unwrap(), 16).unwrap())
         .collect()
+}
+
+/// One final location, and in half the cases a chain of guarded edges as the
+/// only way to it, so that some runs are long.
+pub fn far_automaton(random: &mut Random) -> Automaton {
+    let locations = 1 + random.below(6);
+    let shape = Shape {
+        locations,
+        edges: locations + random.below(locations + 2),
+        greatest_guards: 3,
+        ..Shape::small(random)
+    };
+    let mut automaton = tables::admitted(random, shape);
+    let is_chain = random.once_in(2);
+    let last = match is_chain {
+        true => locations - 1,
+        false => random.below(locations),
+    };
+    for (number, location) in automaton.locations.iter_mut().enumerate() {
+        location.is_final = number == last;
+    }
+    if is_chain {
+        automaton.initial = 0;
+        for (number, edge) in automaton.edges.iter_mut().enumerate() {
+            let step = number % locations;
+            edge.source = step as u8;
+            edge.target = match number < locations {
+                true => (step + 1).min(last) as u8,
+                false => random.below(step + 1) as u8,
+            };
+            edge.guards.push(tables::guard(random, &automaton.bounds));
+        }
+    }
+    automaton
+}
+
+/// Random moves from the initial row that end with an edge, and its target.
+pub fn long_path(random: &mut Random, automaton: &Automaton, moves: usize) -> (Vec<PathStep>, u8) {
+    let mut row = Region::initial(automaton);
+    let mut path: Vec<PathStep> = Vec::new();
+    for _ in 0..moves {
+        let number = random.below(automaton.edges.len());
+        let edge = &automaton.edges[number];
+        let next: Vec<Region> = NextRows::new(automaton, edge, row).take(200).collect();
+        let step = if next.is_empty() {
+            let by = Move::Wait;
+            row.time_successor(&automaton.bounds)
+                .map(|to| PathStep { by, to })
+        } else {
+            let by = Move::Edge(number as u16);
+            let to = random.pick(&next);
+            Some(PathStep { by, to })
+        };
+        if let Some(step) = step {
+            row = step.to;
+            path.push(step);
+        }
+    }
+    while path.last().is_some_and(|step| step.by == Move::Wait) {
+        path.pop();
+    }
+    let end = path
+        .last()
+        .map_or(automaton.initial, |step| step.to.location());
+    (path, end)
 }

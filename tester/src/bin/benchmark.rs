@@ -1,0 +1,277 @@
+//! The checker's time beside that of the rules, on the same input in the same
+//! run: `benchmark [REPETITIONS]`, to be built for release.
+//!
+//! The two sides take turns, and the best time of each counts, so that other
+//! work on the machine disturbs the ratio as little as it can.
+
+use std::hint::black_box;
+use std::time::Instant;
+use tzelmaruf_tester::automaton::*;
+use tzelmaruf_tester::explore::closure;
+use tzelmaruf_tester::format::encode_table;
+use tzelmaruf_tester::generate::{tables, Random, Shape};
+use tzelmaruf_tester::region::{all_rows, Region};
+use tzelmaruf_tester::region_list::encode_regions;
+use tzelmaruf_tester::run::{encode_run, Run, Step};
+use tzelmaruf_tester::{admit, check_regions, check_run, library};
+
+/// Best seconds of a call on either side.
+struct Times {
+    checker: f64,
+    rules: f64,
+}
+
+/// Seconds of one call, as the mean of `calls` in a row. The answer has to be `expected`.
+fn seconds(calls: u32, expected: u32, call: &mut dyn FnMut() -> u32) -> f64 {
+    let start = Instant::now();
+    for _ in 0..calls {
+        assert_eq!(black_box(call()), expected);
+    }
+    start.elapsed().as_secs_f64() / f64::from(calls)
+}
+
+/// How often each side is timed, and how many short calls make one time.
+struct Effort {
+    repetitions: u32,
+    calls: u32,
+}
+
+fn compete(
+    effort: &Effort,
+    expected: u32,
+    checker: &mut dyn FnMut() -> u32,
+    rules: &mut dyn FnMut() -> u32,
+) -> Times {
+    let mut best = Times {
+        checker: f64::INFINITY,
+        rules: f64::INFINITY,
+    };
+    for _ in 0..effort.repetitions {
+        best.checker = best.checker.min(seconds(effort.calls, expected, checker));
+        best.rules = best.rules.min(seconds(effort.calls, expected, rules));
+    }
+    best
+}
+
+fn print(name: &str, times: &Times) {
+    let Times { checker, rules } = times;
+    let ratio = checker / rules;
+    println!("{name:<58}{checker:>14.6}{rules:>14.6}{ratio:>9.2}");
+}
+
+/// A list that is accepted, on both sides.
+fn time_list(name: &str, effort: Effort, automaton: &Automaton, rows: &[Region]) {
+    let mut table = encode_table(automaton);
+    let mut list = encode_regions(automaton.clocks(), rows);
+    let (same_table, same_list) = (table.clone(), list.clone());
+    let times = compete(
+        &effort,
+        rows.len() as u32,
+        &mut || library::check_regions(black_box(&mut table), black_box(&mut list)),
+        &mut || {
+            let answer = check_regions(black_box(&same_table), black_box(&same_list));
+            answer.least().packed()
+        },
+    );
+    let clocks = automaton.clocks();
+    let edges = automaton.edges.len();
+    let text = format!(
+        "{name}: {} rows, {clocks} clocks, {edges} edges",
+        rows.len()
+    );
+    print(&text, &times);
+}
+
+fn of_locations(count: usize, bounds: &[u8], edges: Vec<Edge>) -> Automaton {
+    let location = Location {
+        is_final: false,
+        is_brief: false,
+    };
+    Automaton {
+        initial: 0,
+        bounds: bounds.to_vec(),
+        locations: vec![location; count],
+        edges,
+    }
+}
+
+/// 64 locations and 256 edges that mostly keep or reset two clocks.
+fn typical() -> Automaton {
+    let mut random = Random::new(30_601);
+    let bounds = [5, 2];
+    let edges = (0..256).map(|number| Edge {
+        source: (number % 64) as u8,
+        target: random.below(64) as u8,
+        guards: (0..random.below(3))
+            .map(|_| tables::guard(&mut random, &bounds))
+            .collect(),
+        updates: (0..2)
+            .map(|own| match random.below(8) {
+                0..=2 => Update::Keep,
+                3..=6 => set(0),
+                _ => tables::changing_update(&mut random, &bounds, own),
+            })
+            .collect(),
+    });
+    let edges = edges.collect();
+    of_locations(64, &bounds, edges)
+}
+
+fn set(constant: u8) -> Update {
+    Update::Constant {
+        comparison: Comparison::Equal,
+        constant,
+    }
+}
+
+/// 256 edges from one location to itself that keep, set or copy four clocks.
+fn deterministic() -> Automaton {
+    let mut random = Random::new(30_602);
+    let bounds = [3, 2, 2, 1];
+    let mut update = |own: usize| match random.below(3) {
+        0 => Update::Keep,
+        1 => set(random.below(2) as u8),
+        _ => {
+            let clock = random.below(4);
+            let least = i16::from(bounds[own]) - i16::from(bounds[clock]);
+            Update::Clock {
+                comparison: Comparison::Equal,
+                clock: clock as u8,
+                offset: least + random.below(2) as i16,
+            }
+        }
+    };
+    let edges = (0..256).map(|_| Edge {
+        source: 0,
+        target: 0,
+        guards: vec![],
+        updates: (0..4).map(&mut update).collect(),
+    });
+    let edges = edges.collect();
+    of_locations(1, &bounds, edges)
+}
+
+/// 256 edges from one location to itself, each from every row to nearly every row.
+fn worst(bounds: &[u8]) -> Automaton {
+    let mut random = Random::new(30_603);
+    let mut update = |own: usize| {
+        let (comparison, constant) = random.pick(&[
+            (Comparison::AtLeast, 0),
+            (Comparison::Greater, 0),
+            (Comparison::AtMost, bounds[own]),
+        ]);
+        Update::Constant {
+            comparison,
+            constant,
+        }
+    };
+    let edges = (0..256).map(|_| Edge {
+        source: 0,
+        target: 0,
+        guards: vec![],
+        updates: (0..bounds.len()).map(&mut update).collect(),
+    });
+    let edges = edges.collect();
+    of_locations(1, bounds, edges)
+}
+
+fn time_lists(repetitions: u32) {
+    let effort = |calls| Effort { repetitions, calls };
+    let automaton = typical();
+    let found = closure(&automaton, 4_096);
+    let rows = found.closed_list().expect("the closure fits in a list");
+    time_list("typical list", effort(50), &automaton, rows);
+    let automaton = deterministic();
+    let rows = all_rows(&automaton, 4_096).expect("the rows fit in a list");
+    time_list("deterministic updates", effort(2), &automaton, &rows);
+    for bounds in [&[18, 18][..], &[2, 2, 1, 1]] {
+        let automaton = worst(bounds);
+        let rows = all_rows(&automaton, 4_096).expect("the rows fit in a list");
+        time_list("worst list", effort(1), &automaton, &rows);
+    }
+}
+
+/// The largest table there is.
+fn time_admission(repetitions: u32) {
+    let mut random = Random::new(30_604);
+    let mut largest = tables::admitted(&mut random, Shape::greatest());
+    for edge in &mut largest.edges {
+        while edge.guards.len() < GREATEST_GUARDS {
+            edge.guards
+                .push(tables::guard(&mut random, &largest.bounds));
+        }
+    }
+    let mut table = encode_table(&largest);
+    let same = table.clone();
+    let effort = Effort {
+        repetitions,
+        calls: 500,
+    };
+    let times = compete(
+        &effort,
+        largest.records() as u32,
+        &mut || library::admit(black_box(&mut table)),
+        &mut || admit(black_box(&same)).packed(),
+    );
+    let name = format!("admission of the largest table, {} bytes", same.len());
+    print(&name, &times);
+}
+
+/// An edge with eight guards and four free updates, taken 2,048 times.
+fn longest_run() -> (Automaton, Run) {
+    let guard = Guard {
+        clock: 0,
+        comparison: Comparison::Less,
+        constant: 1,
+    };
+    let below_one = Update::Constant {
+        comparison: Comparison::Less,
+        constant: 1,
+    };
+    let looping = Edge {
+        source: 0,
+        target: 0,
+        guards: vec![guard; GREATEST_GUARDS],
+        updates: vec![below_one; 4],
+    };
+    let mut automaton = of_locations(1, &[1; 4], vec![looping]);
+    automaton.locations[0].is_final = true;
+    let step = Step {
+        edge: 0,
+        delay: 3,
+        values: vec![9_996, 0, 1, 9_999],
+    };
+    let (scale, steps) = (10_000, vec![step; 2_048]);
+    (automaton, Run { scale, steps })
+}
+
+fn time_run(repetitions: u32) {
+    let (automaton, run) = longest_run();
+    let (mut table, mut list) = (encode_table(&automaton), encode_run(&run));
+    let (same_table, same_list) = (table.clone(), list.clone());
+    let effort = Effort {
+        repetitions,
+        calls: 200,
+    };
+    let times = compete(
+        &effort,
+        2_048,
+        &mut || library::check_run(black_box(&mut table), black_box(&mut list)),
+        &mut || check_run(black_box(&same_table), black_box(&same_list)).packed(),
+    );
+    print("run of 2,048 steps", &times);
+}
+
+fn main() {
+    let given = std::env::args().nth(1).and_then(|text| text.parse().ok());
+    let repetitions = given.unwrap_or(3);
+    println!("best of {repetitions}, seconds; ratio: checker to rules");
+    let head = ["", "checker", "rules", "ratio"];
+    println!(
+        "{:<58}{:>14}{:>14}{:>9}",
+        head[0], head[1], head[2], head[3]
+    );
+    time_admission(repetitions);
+    time_run(repetitions);
+    time_lists(repetitions);
+}

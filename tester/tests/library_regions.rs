@@ -1,0 +1,470 @@
+//! The checker's check of region lists against the rules.
+
+mod common;
+use common::*;
+
+use std::fmt;
+use tzelmaruf_tester::automaton::{Automaton, Update};
+use tzelmaruf_tester::compare::Comparer;
+use tzelmaruf_tester::explore::{closure, closure_from};
+use tzelmaruf_tester::format::{encode_table, table_records};
+use tzelmaruf_tester::generate::systematic::*;
+use tzelmaruf_tester::generate::{regions_case, rows, run_case, seed, tables, Random, Shape};
+use tzelmaruf_tester::region::{all_rows, is_row, Region};
+use tzelmaruf_tester::region_list::{encode_regions, region_records};
+use tzelmaruf_tester::tally::OF_REGIONS;
+use tzelmaruf_tester::{library, needs_checker};
+
+needs_checker!();
+
+const CASES: u64 = 200_000;
+const LARGE_ONCE_IN: usize = 50;
+
+#[test]
+fn random_lists() {
+    let seed = seed(30_301);
+    println!("seed {seed}: {CASES} cases");
+    let mut comparer = Comparer::new("random region lists");
+    for case in 0..CASES {
+        let pair = regions_case(&mut Random::of_case(seed, case), LARGE_ONCE_IN);
+        comparer.regions(
+            format_args!("seed {seed} case {case}"),
+            &pair.table,
+            &pair.list,
+        );
+    }
+    comparer.finish_with_positions(OF_REGIONS, &[1, 3, 5, 6, 7, 8, 14, 15, 17]);
+}
+
+/// An automaton and rows that are a closed list for it.
+struct Closed {
+    automaton: Automaton,
+    table: Vec<u8>,
+    rows: Vec<Region>,
+}
+
+impl Closed {
+    fn new(automaton: Automaton, rows: Vec<Region>) -> Closed {
+        let table = encode_table(&automaton);
+        Closed {
+            automaton,
+            table,
+            rows,
+        }
+    }
+
+    /// A random automaton whose closure is closed, of at most `cap` rows.
+    fn random(random: &mut Random, cap: usize) -> Closed {
+        loop {
+            let automaton = far_automaton(random);
+            let closure = closure(&automaton, cap);
+            if let Some(rows) = closure.closed_list() {
+                let rows = rows.to_vec();
+                return Closed::new(automaton, rows);
+            }
+        }
+    }
+
+    fn list(&self, rows: &[Region]) -> Vec<u8> {
+        encode_regions(self.automaton.clocks(), rows)
+    }
+
+    fn accepted(&self, comparer: &mut Comparer, case: fmt::Arguments, rows: &[Region]) {
+        let met = comparer.regions(case, &self.table, &self.list(rows));
+        assert_eq!((met.number, met.place), (0, rows.len() as u32), "{case}");
+    }
+}
+
+/// Each row left out, there twice, exchanged with the next, and put in the
+/// place of the one before.
+fn spoil_rows(comparer: &mut Comparer, case: fmt::Arguments, closed: &Closed) {
+    let initial = Region::initial(&closed.automaton);
+    for index in 0..closed.rows.len() {
+        let mut see = |change: &str, due: &[u8], rows: &[Region]| {
+            let case = format_args!("{case} row {} {change}", index + 1);
+            let met = comparer.regions(case, &closed.table, &closed.list(rows));
+            assert!(due.contains(&met.number), "{case}: {met:?}");
+        };
+        let row = closed.rows[index];
+        let mut without = closed.rows.clone();
+        without.remove(index);
+        see(
+            "left out",
+            &[if row == initial { 16 } else { 0 }, 17],
+            &without,
+        );
+        let mut twice = closed.rows.clone();
+        twice.insert(index, row);
+        see("twice", &[14], &twice);
+        let mut exchanged = closed.rows.clone();
+        exchanged.swap(index, (index + 1) % closed.rows.len());
+        let due = if closed.rows.len() == 1 { 0 } else { 14 };
+        see("exchanged", &[due], &exchanged);
+        let mut replaced = closed.rows.clone();
+        replaced[index.saturating_sub(1)] = row;
+        let due = if index == 0 { 0 } else { 14 };
+        see("for the one before", &[due], &replaced);
+    }
+}
+
+/// Each byte of each row changed to a few values.
+fn spoil_bytes(comparer: &mut Comparer, case: fmt::Arguments, closed: &Closed) {
+    let list = closed.list(&closed.rows);
+    each_change(&list, &mut |change, spoiled| {
+        comparer.regions(format_args!("{case} {change}"), &closed.table, spoiled);
+    });
+}
+
+/// Least closed lists and closed supersets, whole and with every row spoiled.
+#[test]
+fn closures_and_supersets() {
+    let seed = seed(30_302);
+    println!("seed {seed}: 1500 automata");
+    let mut comparer = Comparer::new("closures and supersets");
+    let mut supersets = 0;
+    for number in 0..1_500 {
+        let mut random = Random::of_case(seed, number);
+        let cap = if number % 50 == 0 { 4_096 } else { 150 };
+        let least = Closed::random(&mut random, cap);
+        let case = format_args!("seed {seed} case {number}");
+        least.accepted(&mut comparer, case, &least.rows);
+        let more = rows::row(&mut random, &least.automaton);
+        let starts = [&least.rows[..], &[more]].concat();
+        let extended = closure_from(&least.automaton, &starts, 4_096);
+        if let Some(rows) = extended.closed_list() {
+            least.accepted(&mut comparer, case, rows);
+            supersets += usize::from(rows.len() > least.rows.len());
+        }
+        if number < 250 && least.rows.len() <= 150 {
+            spoil_rows(&mut comparer, case, &least);
+        }
+        if number < 50 && least.rows.len() <= 150 {
+            spoil_bytes(&mut comparer, case, &least);
+        }
+    }
+    println!("{supersets} supersets");
+    assert!(supersets > 300);
+    comparer.finish_with_positions(&[0, 7, 8, 9, 14, 15, 16, 17], &[7, 8, 14, 17]);
+}
+
+/// Each row of the least list left out of a superset, where some rows can be spared.
+#[test]
+fn rows_left_out_of_supersets() {
+    let seed = seed(30_303);
+    println!("seed {seed}: 400 automata");
+    let mut comparer = Comparer::new("rows left out of supersets");
+    for number in 0..400 {
+        let mut random = Random::of_case(seed, number);
+        let least = Closed::random(&mut random, 100);
+        let not_final = |row: &Region| !least.automaton.is_final(row.location());
+        let Some(mut rows) = all_rows(&least.automaton, 250) else {
+            continue;
+        };
+        rows.retain(not_final);
+        for index in 0..rows.len() {
+            let mut without = rows.clone();
+            without.remove(index);
+            let case = format_args!("seed {seed} case {number} without {index}");
+            comparer.regions(case, &least.table, &least.list(&without));
+        }
+    }
+    comparer.finish_with_positions(&[0, 16, 17], &[17]);
+}
+
+/// Final rows: every location of a closed list made final, and rows of final
+/// locations added, in their place in the order or behind all others.
+#[test]
+fn final_rows() {
+    let seed = seed(30_304);
+    println!("seed {seed}: 600 automata");
+    let mut comparer = Comparer::new("final rows");
+    for number in 0..600 {
+        let mut random = Random::of_case(seed, number);
+        let closed = Closed::random(&mut random, 150);
+        let case = format_args!("seed {seed} case {number}");
+        for location in 0..closed.automaton.locations.len() as u8 {
+            let mut changed = closed.automaton.clone();
+            changed.locations[usize::from(location)].is_final ^= true;
+            let list = closed.list(&closed.rows);
+            comparer.regions(case, &encode_table(&changed), &list);
+            let row = rows::row_in(&mut random, &closed.automaton, location);
+            let mut sorted = [&closed.rows[..], &[row]].concat();
+            sorted.sort_unstable();
+            comparer.regions(case, &closed.table, &closed.list(&sorted));
+            let behind = [&closed.rows[..], &[row]].concat();
+            comparer.regions(case, &closed.table, &closed.list(&behind));
+        }
+    }
+    comparer.finish_with_positions(&[0, 14, 15, 17], &[15]);
+}
+
+/// No rows, all but the initial row, and tables with another initial location.
+#[test]
+fn initial_row_missing() {
+    let seed = seed(30_305);
+    println!("seed {seed}: 600 automata");
+    let mut comparer = Comparer::new("initial row missing");
+    for number in 0..600 {
+        let closed = Closed::random(&mut Random::of_case(seed, number), 300);
+        let case = format_args!("seed {seed} case {number}");
+        let initial = Region::initial(&closed.automaton);
+        let mut without = closed.rows.clone();
+        without.retain(|row| *row != initial);
+        for rows in [&[][..], &without] {
+            let met = comparer.regions(case, &closed.table, &closed.list(rows));
+            assert_eq!((met.number, met.place), (16, 0), "{case}");
+        }
+        for location in 0..closed.automaton.locations.len() as u8 {
+            let mut changed = closed.automaton.clone();
+            changed.initial = location;
+            let list = closed.list(&closed.rows);
+            comparer.regions(case, &encode_table(&changed), &list);
+        }
+    }
+    comparer.finish(&[0, 16]);
+}
+
+/// 64 locations of 64 intervals, joined by 256 edges: 4,096 rows, all closed.
+fn longest() -> Closed {
+    let edges: Vec<_> = (0..=255_u8)
+        .map(|number| {
+            let updates = [constant(AtLeast, number % 32)];
+            edge(number % 64, number.wrapping_mul(7) % 64, &[], &updates)
+        })
+        .collect();
+    let automaton = automaton(&[31], &[false; 64], edges);
+    let rows = all_rows(&automaton, 4_096).unwrap();
+    Closed::new(automaton, rows)
+}
+
+#[test]
+fn longest_lists() {
+    let mut comparer = Comparer::new("longest lists");
+    let closed = longest();
+    closed.accepted(&mut comparer, format_args!("whole"), &closed.rows);
+    let records = region_records(1, &closed.rows);
+    // A row more, counted or not; the count alone one more or one less.
+    let mut twice = closed.rows.clone();
+    twice.push(closed.rows[4_095]);
+    let longer = closed.list(&twice);
+    let mut see = |case: &str, list: &[u8], number: u8, place: u32| {
+        let met = comparer.regions(format_args!("{case}"), &closed.table, list);
+        assert_eq!((met.number, met.place), (number, place), "{case}");
+    };
+    see("4,097 rows", &longer, 8, 0);
+    let counted = |count: u16| [&b"RL"[..], &count.to_be_bytes()].concat();
+    let rows = records[1..].concat();
+    see("4,097", &[&counted(4_097)[..], &rows].concat(), 8, 0);
+    see("4,095", &[&counted(4_095)[..], &rows].concat(), 9, 4_096);
+    see(
+        "4,096 of 4,097",
+        &[&counted(4_096)[..], &longer[4..]].concat(),
+        9,
+        4_097,
+    );
+    see("65,535", &[&counted(65_535)[..], &rows].concat(), 8, 0);
+    let whole = records.concat();
+    see("one byte short", &whole[..whole.len() - 1], 7, 4_096);
+    see("one byte more", &[&whole[..], b"R"].concat(), 9, 4_097);
+    for index in (1..4_096).step_by(61).chain([4_095]) {
+        let mut without = closed.rows.clone();
+        without.remove(index);
+        let list = closed.list(&without);
+        comparer.regions(format_args!("without {index}"), &closed.table, &list);
+        let mut exchanged = closed.rows.clone();
+        exchanged.swap(index - 1, index);
+        let list = closed.list(&exchanged);
+        comparer.regions(format_args!("exchanged {index}"), &closed.table, &list);
+    }
+    comparer.finish_with_positions(&[0, 7, 8, 9, 14, 17], &[14]);
+}
+
+/// Every vector of ranks from 0 to 5 on rows with whole, open and top intervals,
+/// alone and between the first and the last row: ranks with a gap, ranks where
+/// none is due, none where one is due.
+#[test]
+fn every_rank() {
+    let mut comparer = Comparer::new("every vector of ranks");
+    for (clocks, intervals) in [
+        (1, &[0, 1, 3, 4, 5][..]),
+        (2, &[0, 1, 3, 4, 5]),
+        (3, &[1, 4, 5]),
+        (4, &[1, 5]),
+    ] {
+        let automaton = automaton(&vec![2; clocks], &[false], vec![]);
+        let table = encode_table(&automaton);
+        let first = Region::initial(&automaton).record(clocks);
+        let last = Region::new(0, &vec![5; clocks], &vec![0; clocks]).record(clocks);
+        for intervals in vectors(clocks, intervals) {
+            for ranks in vectors(clocks, &[0, 1, 2, 3, 4, 5]) {
+                let row = [&b"RW\0"[..], &intervals, &ranks].concat();
+                let case = format_args!("intervals {intervals:?} ranks {ranks:?}");
+                let alone = [b"RL\0\x01", &row[..]].concat();
+                let met = comparer.regions(case, &table, &alone);
+                let is_row = is_row(&automaton, 0, &intervals, &ranks);
+                assert_eq!(met.number == 8, !is_row, "{case}");
+                let between = [b"RL\0\x03", &first[..], &row, &last].concat();
+                comparer.regions(case, &table, &between);
+            }
+        }
+    }
+    comparer.finish(&[8, 14, 16, 17]);
+}
+
+/// Every vector of some digits.
+fn vectors(length: usize, digits: &[u8]) -> Vec<Vec<u8>> {
+    (0..length).fold(vec![vec![]], |shorter, _| {
+        let longer = |vector: &Vec<u8>| {
+            let vector = vector.clone();
+            digits
+                .iter()
+                .map(move |digit| [&vector[..], &[*digit]].concat())
+        };
+        shorter.iter().flat_map(longer).collect()
+    })
+}
+
+/// Every list against every table of a few.
+#[test]
+fn lists_for_another_table() {
+    let seed = seed(30_306);
+    println!("seed {seed}: 70 automata");
+    let mut comparer = Comparer::new("lists for another table");
+    let mut random = Random::new(seed);
+    let closed: Vec<Closed> = (0..70).map(|_| Closed::random(&mut random, 400)).collect();
+    for (first, one) in closed.iter().enumerate() {
+        for (second, other) in closed.iter().enumerate() {
+            let case = format_args!("seed {seed} table {first} list {second}");
+            comparer.regions(case, &one.table, &other.list(&other.rows));
+        }
+    }
+    comparer.finish(&[0, 7, 8, 15, 16, 17]);
+}
+
+/// Edges that lead from every row to nearly every row, and each row left out.
+#[test]
+fn edges_to_nearly_all_rows() {
+    let seed = seed(30_307);
+    println!("seed {seed}");
+    let mut comparer = Comparer::new("edges to nearly all rows");
+    let mut random = Random::new(seed);
+    for bounds in [&[5][..], &[2, 1], &[1, 1, 1], &[1, 0, 1, 0], &[1, 1, 1, 1]] {
+        let updates = |random: &mut Random| -> Vec<Update> {
+            (0..bounds.len())
+                .map(|own| match random.below(4) {
+                    0 => constant(AtLeast, 0),
+                    1 => constant(AtMost, bounds[own]),
+                    2 => clock(AtLeast, own as u8, 0),
+                    _ => clock(Greater, own as u8, 0),
+                })
+                .collect()
+        };
+        let edges = (0..12).map(|_| edge(0, 0, &[], &updates(&mut random)));
+        let automaton = automaton(bounds, &[false], edges.collect());
+        let rows = all_rows(&automaton, 4_096).unwrap();
+        let closed = Closed::new(automaton, rows);
+        let case = format_args!("seed {seed} bounds {bounds:?}");
+        closed.accepted(&mut comparer, case, &closed.rows);
+        for index in 0..closed.rows.len() {
+            let mut without = closed.rows.clone();
+            without.remove(index);
+            let case = format_args!("{case} without {index}");
+            comparer.regions(case, &closed.table, &closed.list(&without));
+        }
+    }
+    comparer.finish(&[0, 16, 17]);
+}
+
+/// Every spoiled form of the list with the table whole, and the other way round.
+#[test]
+fn every_spoiled_form() {
+    let seed = seed(30_308);
+    println!("seed {seed}");
+    let mut comparer = Comparer::new("every spoiled form of region lists");
+    for number in 0..24 {
+        let closed = Closed::random(&mut Random::of_case(seed, number), 60);
+        let table = table_records(&closed.automaton);
+        let list = region_records(closed.automaton.clocks(), &closed.rows);
+        let (whole_table, whole_list) = (table.concat(), list.concat());
+        each_spoiled(&list, &mut |change, spoiled| {
+            let case = format_args!("seed {seed} case {number} list {change}");
+            comparer.regions(case, &whole_table, spoiled);
+        });
+        each_spoiled(&table, &mut |change, spoiled| {
+            let case = format_args!("seed {seed} case {number} table {change}");
+            comparer.regions(case, spoiled, &whole_list);
+        });
+    }
+    comparer.finish_with_positions(OF_REGIONS, &[1, 3, 5, 6, 7, 8, 14, 17]);
+}
+
+/// Empty files, files exchanged or of another kind, files of a megabyte.
+#[test]
+fn odd_files() {
+    let seed = seed(30_309);
+    println!("seed {seed}");
+    let mut comparer = Comparer::new("odd files as region lists");
+    let closed = Closed::random(&mut Random::new(seed), 200);
+    let (table, list) = (&closed.table, closed.list(&closed.rows));
+    each_odd_file(&list, &mut |change, file| {
+        comparer.regions(format_args!("list: {change}"), table, file);
+        comparer.regions(format_args!("both: {change}"), file, file);
+    });
+    each_odd_file(table, &mut |change, file| {
+        comparer.regions(format_args!("table: {change}"), file, &list);
+    });
+    for case in 0..2_000 {
+        let mut random = Random::of_case(seed, case);
+        let pair = regions_case(&mut random, LARGE_ONCE_IN);
+        let other = regions_case(&mut random, LARGE_ONCE_IN);
+        let run = run_case(&mut random, LARGE_ONCE_IN);
+        let text = format_args!("seed {seed} case {case}");
+        comparer.regions(text, &pair.list, &pair.table);
+        comparer.regions(text, &pair.table, &pair.table);
+        comparer.regions(text, &pair.table, &other.list);
+        comparer.regions(text, &run.table, &run.list);
+    }
+    comparer.finish(&[1, 4, 7, 8, 9, 14, 15, 16, 17]);
+}
+
+/// The rest of a list lies right behind each cut; it makes no difference.
+#[test]
+fn nothing_behind_the_end_is_read() {
+    let seed = seed(30_310);
+    println!("seed {seed}");
+    for case in 0..200 {
+        let mut pair = regions_case(&mut Random::of_case(seed, case), 1_000);
+        for length in 0..pair.list.len().min(400) {
+            let rules = tzelmaruf_tester::check_regions(&pair.table, &pair.list[..length]);
+            let answer = library::check_regions(&mut pair.table, &mut pair.list[..length]);
+            assert!(
+                rules.permits(answer),
+                "seed {seed} case {case} cut at {length}: {answer:#x} {rules:?} {} {}",
+                hex(&pair.table),
+                hex(&pair.list)
+            );
+        }
+    }
+}
+
+/// Large automata of every size, with lists that are too short to be closed.
+#[test]
+fn tables_of_any_size() {
+    let seed = seed(30_311);
+    println!("seed {seed}: 400 automata");
+    let mut comparer = Comparer::new("tables of any size");
+    for number in 0..400 {
+        let mut random = Random::of_case(seed, number);
+        let shape = Shape::any(&mut random);
+        let mut automaton = tables::admitted(&mut random, shape);
+        automaton
+            .locations
+            .iter_mut()
+            .for_each(|l| l.is_final = false);
+        let found = closure(&automaton, 4_096).rows;
+        let list = encode_regions(automaton.clocks(), &found);
+        let case = format_args!("seed {seed} case {number}");
+        comparer.regions(case, &encode_table(&automaton), &list);
+    }
+    comparer.finish(&[0, 17]);
+}
