@@ -1,0 +1,2 @@
+-- What the examples' calls require.
+pub mod Cases

@@ -1,0 +1,2 @@
+-- The edges of the examples.
+pub mod Examples
