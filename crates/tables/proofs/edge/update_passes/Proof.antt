@@ -1,7 +1,7 @@
-use mathlib.Core.Path.{_∙_}
 use denote.Ref.{now}
 use Rattle.tables.specs.TableFile.{fields}
 use Rattle.tables.proofs.Laws.Edges.{keep-in-range, constant-in-range, clock-in-range, no-kind}
+use mathlib.Core.Path.{_∙_}
 use borrow.Author.Needs.{needs}
 use Rattle.tables.proofs.edge.update_passes.Statement.{statement}
 use Rattle.tables.proofs.edge.update_passes.Tie as tie
@@ -47,7 +47,7 @@ keep-passes-requires c κs = search needs
 -- src/edge.rt:134:9
 returns : tie.Need-returns
 returns c = let a = c .before .before .before .before .before .before .before .args in
-    c .keep-passes .ensures ∙ rw (c .before .before .two-bytes .ensures) (keep-in-range _ (fields (now (a .bytes)) (a .at)) (c .before .if1 .taken))
+    keep-in-range _ (fields (now (a .bytes)) (a .at)) (c .before .before .two-bytes .ensures) (c .before .if1 .taken) (c .keep-passes .ensures)
 
 -- src/edge.rt:137:9
 constant-passes-requires : tie.Need-constant-passes-requires
@@ -56,7 +56,7 @@ constant-passes-requires c κs = search needs
 -- src/edge.rt:137:9
 returns-2 : tie.Need-returns-2
 returns-2 c = let a = c .before .before .before .before .before .before .before .before .args in
-    c .constant-passes .ensures ∙ rw (c .before .before .before .two-bytes .ensures) (constant-in-range _ (fields (now (a .bytes)) (a .at)) (c .before .if2 .taken))
+    constant-in-range _ (fields (now (a .bytes)) (a .at)) (c .before .before .before .two-bytes .ensures) (c .before .if2 .taken) (c .constant-passes .ensures)
 
 -- src/edge.rt:140:9
 clock-passes-requires : tie.Need-clock-passes-requires
@@ -65,7 +65,7 @@ clock-passes-requires c κs = search needs
 -- src/edge.rt:140:9
 returns-3 : tie.Need-returns-3
 returns-3 c = let a = c .before .before .before .before .before .before .before .before .before .args in
-    c .clock-passes .ensures ∙ rw (c .before .before .before .before .two-bytes .ensures) (clock-in-range _ (fields (now (a .bytes)) (a .at)) (c .before .if3 .taken))
+    clock-in-range _ (fields (now (a .bytes)) (a .at)) (c .before .before .before .before .two-bytes .ensures) (c .before .if3 .taken) (c .clock-passes .ensures)
 
 -- src/edge.rt:125:1
 returns-4 : tie.Need-returns-4
