@@ -118,10 +118,10 @@ fn broken_rule(e: Edge, clocks: Clocks) -> u8
     ensures { λ r. ⌜ r ≡ broken-rule (bounds-of clocks) (edge-of (clocks .count) e) ⌝ }
 {
     if !guards_bounded(e, clocks) {
-        return 5;
+        return 5; // a guard's constant
     }
     if !updates_bounded(5, e, clocks) {
-        return 5;
+        return 5; // an update's constant
     }
     if !updates_bounded(6, e, clocks) {
         return 6;

@@ -2,24 +2,16 @@ use borrow.Author.Tests.{eq-eqb, ne-eqb}
 use borrow.Author.Needs.{needs}
 use Rattle.tables.proofs.bounds.update_bounded.Statement.{statement}
 use Rattle.tables.proofs.bounds.update_bounded.Tie as tie
-use Rattle.tables.proofs.bounds.update_bounded.Reads as reads
-use Rattle.tables.proofs.bounds.update_bounded.Lts as lts
-use Rattle.tables.proofs.bounds.clock_bounded.Reads as clock-bounded-reads
-use Rattle.tables.proofs.bounds.constant_bounded.Reads as constant-bounded-reads
 
--- src/bounds.rt:91:9
 constant-bounded-requires : tie.Need-constant-bounded-requires
 constant-bounded-requires c κs = search needs
 
--- src/bounds.rt:91:9
 returns : tie.Need-returns
 returns c = rw (eq-eqb _ _ (c .before .if1 .taken), c .constant-bounded .ensures)
 
--- src/bounds.rt:93:5
 clock-bounded-requires : tie.Need-clock-bounded-requires
 clock-bounded-requires c κs = search needs
 
--- src/bounds.rt:86:1
 returns-2 : tie.Need-returns-2
 returns-2 c = rw (ne-eqb _ _ (c .before .if1 .left), c .clock-bounded .ensures)
 

@@ -5,14 +5,11 @@ use lib.ListN.{length, getD}
 use native.Mathlib.Omega.{arith}
 use borrow.Author.Tests.{not-true, not-false}
 use mathlib.Core.Path.{_≡_, sym, _∙_}
-use Prim.Native.Nat.{ℕ, _-_, _≤_}
+use Prim.Native.Nat.{ℕ, _-_}
 use Rattle.tables.proofs.Laws.Loops.{Passed, none-tested, all-tested, one-passes, one-fails}
 use borrow.Author.Needs.{needs}
 use Rattle.tables.proofs.bounds.updates_bounded.Statement.{statement}
 use Rattle.tables.proofs.bounds.updates_bounded.Tie as tie
-use Rattle.tables.proofs.bounds.updates_bounded.Reads as reads
-use Rattle.tables.proofs.bounds.updates_bounded.Lts as lts
-use Rattle.tables.proofs.bounds.update_bounded.Reads as update-bounded-reads
 
 abbrev Inv-loop : tie.InvT-loop
 Inv-loop rule clocks e n z₀ z = Passed (λ (z : ℕ). rule-of rule (bounds-of clocks) z (action-of (getD (e .updates) z no-update .action))) n z
@@ -20,44 +17,34 @@ Inv-loop rule clocks e n z₀ z = Passed (λ (z : ℕ). rule-of rule (bounds-of 
 abbrev μ-loop : tie.MeasureT-loop
 μ-loop rule clocks e n z₀ z = n - z
 
--- src/bounds.rt:103:5
 loop-holds : tie.Need-loop-holds Inv-loop μ-loop
 loop-holds c = none-tested
 
--- src/bounds.rt:104:27
 cast-u : tie.Need-cast-u Inv-loop μ-loop
 cast-u c = search needs
 
--- src/bounds.rt:104:17
 mul-u : tie.Need-mul-u Inv-loop μ-loop
 mul-u c = search needs
 
--- src/bounds.rt:104:17
 element-copy-out-u : tie.Need-element-copy-out-u Inv-loop μ-loop
 element-copy-out-u c = search needs
 
--- src/bounds.rt:106:13
 update-bounded-requires : tie.Need-update-bounded-requires Inv-loop μ-loop
 update-bounded-requires c κs = search needs
 
--- src/bounds.rt:107:13
 returns : tie.Need-returns Inv-loop μ-loop
 returns c = let long : length (c .before .before .before .before .before .args .clocks .bounds) ≡ 4 = search needs in
     sym (updates-each (c .before .before .before .before .before .args .clocks) (c .before .before .before .before .before .args .t2) (rule-of (c .before .before .before .before .before .args .rule)) (omega arith) ∙ one-fails (c .before .before .before .before .loop .inv) (c .before .before .before .loop-test .taken) (sym (c .before .update-bounded .ensures) ∙ not-true _ (c .if1 .taken)))
 
--- src/bounds.rt:109:9
 add-z : tie.Need-add-z Inv-loop μ-loop
 add-z c = search needs
 
--- src/bounds.rt:103:5
 loop-less : tie.Need-loop-less Inv-loop μ-loop
 loop-less c = search needs
 
--- src/bounds.rt:103:5
 loop-again : tie.Need-loop-again Inv-loop μ-loop
 loop-again c = one-passes (c .before .before .before .before .loop .inv) (c .before .before .before .loop-test .taken) (sym (c .before .update-bounded .ensures) ∙ not-false _ (c .if1 .left))
 
--- src/bounds.rt:97:1
 returns-2 : tie.Need-returns-2 Inv-loop μ-loop
 returns-2 c = let long : length (c .before .before .args .clocks .bounds) ≡ 4 = search needs in
     sym (updates-each (c .before .before .args .clocks) (c .before .before .args .t2) (rule-of (c .before .before .args .rule)) (omega arith) ∙ all-tested (c .before .loop .inv) (c .loop-test .left))
