@@ -1,12 +1,17 @@
 -- Which bound rule an edge breaks, and the edges of a table by position. Assumes nothing.
 use Prim.Native.Nat.{ℕ, _+_, _*_}
-use mathlib.Core.Bool.{cond, _&&_}
+use mathlib.Core.Bool.{Bool, cond, _&&_}
 use mathlib.Core.List.{List}
-use Rattle.regions.specs.Edge.{Edge}
+use lib.Dec.{eqb}
+use Rattle.regions.specs.Edge.{Action, Edge}
 use Rattle.regions.specs.Checks.{every}
 use Rattle.tables.specs.Admission.{guard-bounded, constant-bounded, clock-bounded, each-update}
 use Rattle.tables.specs.Edge.{edge-at, after-edge, Stands}
 use Rattle.tables.specs.Skips.{skip, values, AllAt}
+
+-- the bound rule of an update, by its refusal's number
+abbrev pub rule-of : ℕ → List ℕ → ℕ → Action → Bool
+rule-of rule = cond (eqb rule 5) constant-bounded clock-bounded
 
 -- 5, else 6, or 0 for none
 unfoldable pub broken-rule : List ℕ → Edge → ℕ

@@ -7,7 +7,7 @@ ghost use Rattle.regions.specs.Checks.{every};
 ghost use Rattle.regions.specs.Values.{bounds-of, guard-of, action-of, edge-of};
 ghost use Rattle.tables.specs.Admission.{guard-bounded, constant-bounded, clock-bounded, each-update, edges-bounded};
 ghost use Rattle.tables.specs.Scan.{Scanned};
-ghost use Rattle.tables.specs.Bounds.{broken-rule, edges-at, AllStand};
+ghost use Rattle.tables.specs.Bounds.{rule-of, broken-rule, edges-at, AllStand};
 use crate::admission::Head;
 use crate::decode::after_edge;
 use crate::decode::edge_from;
@@ -68,24 +68,6 @@ fn constant_bounded(a: Action, z: u8, clocks: Clocks) -> bool
     }
 }
 
-// Whether each clock's is.
-fn constants_bounded(e: Edge, clocks: Clocks) -> bool
-    requires { ⌜ clocks .count ≤ 4 ⌝ }
-    ensures { λ r. ⌜ r ≡ each-update constant-bounded (bounds-of clocks) (edge-of (clocks .count) e) ⌝ }
-{
-    let n = clocks.count;
-    let mut z: u8 = 0;
-    while z < n {
-        let u = e.updates[z as usize];
-        let a = u.action;
-        if !constant_bounded(a, z, clocks) {
-            return false;
-        }
-        z += 1;
-    }
-    true
-}
-
 // Whether the clock that clock z is updated from, if any, has a bound that is great enough.
 fn clock_bounded(a: Action, z: u8, clocks: Clocks) -> bool
     requires { ⌜ clocks .count ≤ 4 ⌝ }
@@ -100,17 +82,28 @@ fn clock_bounded(a: Action, z: u8, clocks: Clocks) -> bool
     }
 }
 
-// Whether each clock's has.
-fn clocks_bounded(e: Edge, clocks: Clocks) -> bool
+// Whether clock z's update keeps a bound rule, 5 or 6.
+fn update_bounded(rule: u8, a: Action, z: u8, clocks: Clocks) -> bool
     requires { ⌜ clocks .count ≤ 4 ⌝ }
-    ensures { λ r. ⌜ r ≡ each-update clock-bounded (bounds-of clocks) (edge-of (clocks .count) e) ⌝ }
+    ensures { λ r. ⌜ r ≡ rule-of rule (bounds-of clocks) z (action-of a) ⌝ }
+{
+    if rule == 5 {
+        return constant_bounded(a, z, clocks);
+    }
+    clock_bounded(a, z, clocks)
+}
+
+// Whether each clock's update does.
+fn updates_bounded(rule: u8, e: Edge, clocks: Clocks) -> bool
+    requires { ⌜ clocks .count ≤ 4 ⌝ }
+    ensures { λ r. ⌜ r ≡ each-update (rule-of rule) (bounds-of clocks) (edge-of (clocks .count) e) ⌝ }
 {
     let n = clocks.count;
     let mut z: u8 = 0;
     while z < n {
         let u = e.updates[z as usize];
         let a = u.action;
-        if !clock_bounded(a, z, clocks) {
+        if !update_bounded(rule, a, z, clocks) {
             return false;
         }
         z += 1;
@@ -125,12 +118,12 @@ fn broken_rule(e: Edge, clocks: Clocks) -> u8
     ensures { λ r. ⌜ r ≡ broken-rule (bounds-of clocks) (edge-of (clocks .count) e) ⌝ }
 {
     if !guards_bounded(e, clocks) {
-        return 5;
+        return 5; // a guard's constant
     }
-    if !constants_bounded(e, clocks) {
-        return 5;
+    if !updates_bounded(5, e, clocks) {
+        return 5; // an update's constant
     }
-    if !clocks_bounded(e, clocks) {
+    if !updates_bounded(6, e, clocks) {
         return 6;
     }
     0

@@ -1,5 +1,4 @@
 // The location records of a table.
-ghost use mathlib.Core.Path.{_≡_};
 ghost use Prim.Native.Nat.{_≤_};
 ghost use lib.ListN.{length, drop};
 ghost use Rattle.tables.specs.Reading.{records};

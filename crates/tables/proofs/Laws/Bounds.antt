@@ -3,7 +3,7 @@ use Prim.Native.Nat.{ℕ, suc, _+_, _-_, _≤_, _<_}
 use native.Mathlib.Omega.{arith}
 use mathlib.Core.Path.{_≡_, refl, sym, ap, _∙_}
 use mathlib.Core.Bool.{Bool, true, false, cond, _&&_}
-use mathlib.Core.List.{List, [], _∷_, map}
+use mathlib.Core.List.{List, [], _∷_}
 use lib.ListN.{length, take, drop, getD, length-take, List·getD-eq-default, List·getD-map}
 use lib.Seq.{length-take-le, getD-take}
 use Rattle.regions.specs.Clocks.{at, allb}
@@ -16,7 +16,7 @@ use Rattle.regions.specs.declared.edge.Guard as guard-code
 use Rattle.regions.specs.declared.edge.Action as action-code
 use Rattle.regions.specs.declared.edge.Update as update-code
 use Rattle.regions.specs.declared.edge.Edge as edge-code
-use Rattle.tables.specs.Reading.{Read, good, bad, carry, require}
+use Rattle.tables.specs.Reading.{Read, bad, carry, require}
 use Rattle.tables.specs.Admission.{guard-bounded, constant-bounded, clock-bounded, each-update, edges-bounded}
 use Rattle.tables.specs.Scan.{Scanned}
 use Rattle.tables.specs.Edge.{edge-at, after-edge, Stands}

@@ -1,17 +1,17 @@
 -- The edge whose record stands at a position, from its bytes. Assumes nothing.
 use Prim.Native.Nat.{ℕ, _+_, _*_, _≤_}
 use native.Mathlib.Omega.{arith}
-use mathlib.Core.Path.{_≡_, refl, sym, ap, _∙_}
+use mathlib.Core.Path.{_≡_, ap, _∙_}
 use mathlib.Core.List.{List, map}
 use lib.ListN.{length, take}
 use Rattle.regions.specs.Clocks.{at}
-use Rattle.regions.specs.Edge.{Guard, Update, Edge}
+use Rattle.regions.specs.Edge.{Guard, Update}
 use Rattle.regions.specs.Values.{guard-of, update-of, edge-of}
 use Rattle.regions.specs.declared.edge.Guard as guard-code
 use Rattle.regions.specs.declared.edge.Update as update-code
 use Rattle.tables.specs.Records.{part-at}
 use Rattle.tables.specs.TableFile.{update}
-use Rattle.tables.specs.Edge.{size-of, guards-from, fields-from, edge-from, edge-at, after-edge, Stands}
+use Rattle.tables.specs.Edge.{size-of, guards-from, fields-from, edge-at, after-edge, Stands}
 use Rattle.tables.proofs.Laws.Parts.{part-there}
 
 module _ {n : ℕ} {file : List ℕ} {p : ℕ} (stands : Stands n file p) where

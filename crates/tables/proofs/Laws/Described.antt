@@ -1,7 +1,6 @@
 -- Where the records of an admitted table stand, and what they say. Assumes nothing.
-use Prim.Native.Nat.{ℕ, suc, _+_, _*_, _%_, _≤_, _<_}
-use native.Mathlib.Omega.{arith}
-use mathlib.Core.Path.{_≡_, refl, sym, ap, _∙_}
+use Prim.Native.Nat.{ℕ, _+_, _*_, _%_, _≤_, _<_}
+use mathlib.Core.Path.{_≡_, sym, ap, _∙_}
 use mathlib.Core.Bool.{Bool, false}
 use mathlib.Core.List.{List}
 use lib.ListN.{length, drop, getD}
@@ -9,13 +8,12 @@ use lib.Dec.{eqb}
 use Rattle.regions.specs.Clocks.{at}
 use Rattle.regions.specs.Edge.{Edge}
 use Rattle.regions.specs.Automaton.{Table, edge, blank, final}
-use Rattle.tables.specs.Reading.{good, _>>=_}
+use Rattle.tables.specs.Reading.{good}
 use Rattle.tables.specs.Records.{part-at}
-use Rattle.tables.specs.TableFile.{Header, header, location, edge-record, table-file}
+use Rattle.tables.specs.TableFile.{location, edge-record, table-file}
 use Rattle.tables.specs.Admission.{admitted, table-of}
 use Rattle.tables.specs.Values.{Describes}
 use Rattle.tables.specs.Edge.{edge-at, after-edge, Stands}
-use Rattle.tables.specs.Skips.{skip, values, AllAt}
 use Rattle.tables.specs.Bounds.{edge-start}
 use Rattle.tables.specs.declared.admission.Head.{Head}
 use Rattle.tables.proofs.Laws.Reading.{parts}

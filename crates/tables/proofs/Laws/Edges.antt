@@ -1,9 +1,9 @@
 -- The ways in which an edge record is read or refused. Assumes nothing.
 use Prim.Native.Nat.{ℕ, _+_, _*_, _≤_, _<_}
 use native.Mathlib.Omega.{arith}
-use mathlib.Core.Path.{_≡_, refl, sym, ap, _∙_}
+use mathlib.Core.Path.{_≡_, refl, sym, _∙_}
 use mathlib.Core.Bool.{Bool, true, false, _&&_, _||_}
-use mathlib.Core.List.{List, map}
+use mathlib.Core.List.{List}
 use lib.ListN.{length, drop}
 use lib.Dec.{eqb, leb, ltb}
 use borrow.Author.Tests.{leb-true, ne-eqb}
@@ -28,18 +28,18 @@ or-none : (b : Bool) → b ≡ (b || false)
 or-none true = refl
 or-none false = refl
 
-module _ (n : ℕ) (f : Fields) where
-  pub keep-in-range : f .kind ≡ 0 → (eqb (f .comparison) 0 && eqb (f .y) 0 && eqb (f .offset) 0) ≡ fields-in-range n f
-  keep-in-range e = rw e (or-none _ ∙ or-none _)
+module _ (n : ℕ) (f : Fields) {offset : ℕ} (is : offset ≡ f .offset) {r : Bool} where
+  pub keep-in-range : f .kind ≡ 0 → r ≡ (eqb (f .comparison) 0 && eqb (f .y) 0 && eqb offset 0) → r ≡ fields-in-range n f
+  keep-in-range e h = h ∙ rw (is, e) (or-none _ ∙ or-none _)
 
-  pub constant-in-range : f .kind ≡ 1 → (leb (f .comparison) 4 && eqb (f .y) 0 && leb (f .offset) 127) ≡ fields-in-range n f
-  constant-in-range e = rw e (or-none _)
+  pub constant-in-range : f .kind ≡ 1 → r ≡ (leb (f .comparison) 4 && eqb (f .y) 0 && leb offset 127) → r ≡ fields-in-range n f
+  constant-in-range e h = h ∙ rw (is, e) (or-none _)
 
-  pub clock-in-range : f .kind ≡ 2 → (leb (f .comparison) 4 && ltb (f .y) n && leb (up (f .offset)) 127 && leb (down (f .offset)) 127) ≡ fields-in-range n f
-  clock-in-range e = rw e
+  pub clock-in-range : f .kind ≡ 2 → r ≡ (leb (f .comparison) 4 && ltb (f .y) n && leb (up offset) 127 && leb (down offset) 127) → r ≡ fields-in-range n f
+  clock-in-range e h = h ∙ rw (is, e)
 
-  pub no-kind : (f .kind ≡ 0 → ⊥) → (f .kind ≡ 1 → ⊥) → (f .kind ≡ 2 → ⊥) → false ≡ fields-in-range n f
-  no-kind h k l = rw (ne-eqb (f .kind) 0 h, ne-eqb (f .kind) 1 k, ne-eqb (f .kind) 2 l)
+pub no-kind : (n : ℕ) (f : Fields) → (f .kind ≡ 0 → ⊥) → (f .kind ≡ 1 → ⊥) → (f .kind ≡ 2 → ⊥) → false ≡ fields-in-range n f
+no-kind n f h k l = rw (ne-eqb (f .kind) 0 h, ne-eqb (f .kind) 1 k, ne-eqb (f .kind) 2 l)
 
 -- the record -----------------------------------------------------------------------------------------------------------------
 

@@ -1,12 +1,12 @@
 -- The ways in which a header is read or refused. Assumes nothing.
-use Prim.Native.Nat.{ℕ, suc, _+_, _≤_, _<_}
+use Prim.Native.Nat.{ℕ, _+_, _≤_, _<_}
 use native.Mathlib.Decide.{ℕ-discrete}
 use native.Mathlib.Numerals.{add-one}
 use native.Mathlib.Omega.{arith}
 use mathlib.Core.Path.{_≡_, refl, sym, ap, _∙_}
-use mathlib.Core.Bool.{Bool, true, false, _&&_}
-use mathlib.Core.List.{List, [], _∷_, _++_}
-use lib.ListN.{length, take, drop, set, getD, replicate, length-set}
+use mathlib.Core.Bool.{true, false, _&&_}
+use mathlib.Core.List.{List}
+use lib.ListN.{length, take, drop, set, replicate, length-set}
 use lib.Seq.{take-suc, take-suc-set, take-length, getD-set-same, getD-set-other}
 use lib.Dec.{leb, ltb}
 use Rattle.regions.specs.Clocks.{at}
@@ -14,7 +14,7 @@ use Rattle.regions.proofs.Laws.Tests.{and-law}
 use Rattle.regions.proofs.Laws.Lists.{zeros}
 use Rattle.regions.specs.Checks.{every}
 use Rattle.tables.specs.Bytes.{TA, two}
-use Rattle.tables.specs.Reading.{Read, good, bad, Reader, carry, _>>=_, _>>_, done, next-bytes, between, require}
+use Rattle.tables.specs.Reading.{good, bad, Reader, carry, _>>=_, _>>_, done, next-bytes, between, require}
 use Rattle.tables.specs.Records.{part-at, record-at}
 use Rattle.tables.specs.TableFile.{Header, header}
 use Rattle.tables.specs.Header.{counts-in-range, low, Copied, header-from, HeadOf, Headed}

@@ -9,7 +9,7 @@ use lib.Dec.{eqb}
 use borrow.Author.Tests.{le-leb, lt-leb}
 use Rattle.regions.specs.Clocks.{at}
 use Rattle.tables.specs.Bytes.{LO}
-use Rattle.tables.specs.Reading.{good, bad, _>>=_, carry, require}
+use Rattle.tables.specs.Reading.{good, carry, require}
 use Rattle.tables.specs.Records.{part-at, record-at}
 use Rattle.tables.specs.TableFile.{location}
 use Rattle.tables.specs.Scan.{Scanned}

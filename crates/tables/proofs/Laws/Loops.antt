@@ -12,7 +12,7 @@ use Rattle.regions.specs.Clocks.{allb}
 use Rattle.regions.specs.Closed.{Mem}
 use Rattle.regions.specs.Rows.{from}
 use Rattle.regions.specs.Checks.{every}
-use Rattle.regions.proofs.Laws.Tests.{Says, says, never, allb-law}
+use Rattle.regions.proofs.Laws.Tests.{Says, says, allb-law}
 use Rattle.regions.proofs.Laws.Checks.{every-law}
 use Rattle.regions.proofs.Laws.Members.{getD-in, in-getD, from-in, from-out}
 use Rattle.tables.proofs.Laws.Reading.{itself}

@@ -9,9 +9,9 @@ use lib.Seq.{drop-length}
 use Rattle.regions.specs.Edge.{Edge}
 use Rattle.regions.specs.Automaton.{Table}
 use Rattle.regions.specs.Values.{bounds-of, Few}
-use Rattle.tables.specs.Reading.{Read, good, bad, Reader, carry, _>>=_, end, records}
+use Rattle.tables.specs.Reading.{Read, good, bad, Reader, carry, end, records}
 use Rattle.tables.specs.TableFile.{Header, header, location, edge-record, table-file}
-use Rattle.tables.specs.Admission.{edges-bounded, admitted, record-count, admission, table-of}
+use Rattle.tables.specs.Admission.{edges-bounded, admitted}
 use Rattle.tables.specs.Values.{Describes, Opens}
 use Rattle.tables.specs.Scan.{Scanned}
 use Rattle.tables.specs.Header.{HeadOf, Headed}

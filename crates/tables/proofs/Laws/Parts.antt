@@ -10,7 +10,7 @@ use lib.Seq.{length-take-le, take-at, drop-at, drop-drop}
 use lib.Dec.{leb}
 use borrow.Author.Tests.{leb-true, leb-false, le-leb, lt-leb}
 use Rattle.regions.specs.Checks.{same}
-use Rattle.tables.specs.Reading.{Read, good, bad, _>>=_, carry, next-bytes, require, next-record}
+use Rattle.tables.specs.Reading.{good, bad, carry, next-bytes, require, next-record}
 use Rattle.tables.specs.Records.{part-at, record-at}
 use Rattle.tables.proofs.Laws.Reading.{Took, goes, passes}
 

@@ -13,7 +13,7 @@ use Rattle.regions.specs.Run.{Reached}
 use Rattle.regions.specs.Closed.{Closed, ExactlyOne}
 use Rattle.regions.proofs.Laws.Index.{exactly-one}
 use Rattle.tables.specs.Answer.{Answer, accepted, refused}
-use Rattle.tables.specs.Reading.{Read, good, bad, Reader, carry, _>>=_, next-bytes, require, end, next-record, records, answered}
+use Rattle.tables.specs.Reading.{Read, good, bad, Reader, carry, next-bytes, require, end, next-record, records, answered}
 use Rattle.tables.specs.TableFile.{header, location, edge-record, table-file}
 use Rattle.tables.specs.Admission.{edges-bounded, admitted, record-count, admission, table-of}
 use Rattle.tables.specs.Meaning.{Limits}

@@ -1,11 +1,10 @@
 -- How scans go on: one reading after another, and records in a row. Assumes nothing.
 use Prim.Native.Nat.{ℕ, suc, _+_, _-_, _≤_, _<_}
 use native.Mathlib.Omega.{arith}
-use mathlib.Core.Path.{_≡_, refl, sym, _∙_}
-use mathlib.Core.Bool.{Bool, true, false}
-use mathlib.Core.List.{List, _∷_}
+use mathlib.Core.Path.{_≡_, refl, sym}
+use mathlib.Core.List.{List}
 use lib.ListN.{length, drop}
-use Rattle.tables.specs.Reading.{Read, good, bad, Reader, _>>=_, carry, done, require, end, records}
+use Rattle.tables.specs.Reading.{Read, good, bad, Reader, carry, done, records}
 use Rattle.tables.specs.Scan.{Scanned}
 use Rattle.tables.specs.declared.scan.Scan.{Scan}
 

@@ -4,20 +4,13 @@ use Rattle.tables.proofs.Laws.Described.{edge-stands, edge-says}
 use borrow.Author.Needs.{needs}
 use Rattle.tables.proofs.admission.edge_at.Statement.{statement}
 use Rattle.tables.proofs.admission.edge_at.Tie as tie
-use Rattle.tables.proofs.admission.edge_at.Reads as reads
-use Rattle.tables.proofs.admission.edge_at.Lts as lts
-use Rattle.tables.proofs.admission.edge_start.Reads as edge-start-reads
-use Rattle.tables.proofs.decode.edge_from.Reads as edge-from-reads
 
--- src/admission.rt:135:21
 edge-start-requires : tie.Need-edge-start-requires
 edge-start-requires c κs = search needs
 
--- src/admission.rt:135:5
 edge-from-requires : tie.Need-edge-from-requires
 edge-from-requires c κs = (rw (c .edge-start .ensures) (edge-stands (now (c .before .before .before .args .file)) _ (c .before .before .before .pre .0) (c .before .before .before .args .number) (c .before .before .before .pre .1)), c .before .before .before .pre .0 .few .few)
 
--- src/admission.rt:128:1
 returns : tie.Need-returns
 returns c = (c .edge-from .ensures .0 ∙ rw (c .before .edge-start .ensures) (edge-says (now (c .before .before .before .before .args .file)) _ (c .before .before .before .before .pre .0) (c .before .before .before .before .args .number) (c .before .before .before .before .pre .1)), c .edge-from .ensures .1)
 

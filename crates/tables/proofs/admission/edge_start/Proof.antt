@@ -9,9 +9,6 @@ use Rattle.tables.proofs.Laws.Described.{edge-stands}
 use borrow.Author.Needs.{needs}
 use Rattle.tables.proofs.admission.edge_start.Statement.{statement}
 use Rattle.tables.proofs.admission.edge_start.Tie as tie
-use Rattle.tables.proofs.admission.edge_start.Reads as reads
-use Rattle.tables.proofs.admission.edge_start.Lts as lts
-use Rattle.tables.proofs.decode.after_edge.Reads as after-edge-reads
 
 abbrev Inv-loop : tie.InvT-loop
 Inv-loop file number n at₀ i₀ at i = (i ≤ number) × (at ≡ skip (after-edge n file) i at₀)
@@ -19,47 +16,36 @@ Inv-loop file number n at₀ i₀ at i = (i ≤ number) × (at ≡ skip (after-e
 abbrev μ-loop : tie.MeasureT-loop
 μ-loop file number n at₀ i₀ at i = number - i
 
--- src/admission.rt:118:23
 cast-at : tie.Need-cast-at Inv-loop μ-loop
 cast-at c = search needs
 
--- src/admission.rt:118:18
 add-at : tie.Need-add-at Inv-loop μ-loop
 add-at c = search needs
 
--- src/admission.rt:118:42
 cast-at-2 : tie.Need-cast-at-2 Inv-loop μ-loop
 cast-at-2 c = search needs
 
--- src/admission.rt:118:37
 mul-at : tie.Need-mul-at Inv-loop μ-loop
 mul-at c = search needs
 
--- src/admission.rt:118:18
 add-at-2 : tie.Need-add-at-2 Inv-loop μ-loop
 add-at-2 c = search needs
 
--- src/admission.rt:120:5
 loop-holds : tie.Need-loop-holds Inv-loop μ-loop
 loop-holds c = (omega arith, skip-none _ _)
 
--- src/admission.rt:121:9
 after-edge-requires : tie.Need-after-edge-requires Inv-loop μ-loop
 after-edge-requires c κs = rw (c .before .loop .inv .1) (edge-stands (now (c .before .before .before .before .before .args .file)) _ (c .before .before .before .before .before .pre .0) (c .before .loop .i) (omega (arith, c .before .before .before .before .before .pre .1)))
 
--- src/admission.rt:122:9
 add-i : tie.Need-add-i Inv-loop μ-loop
 add-i c = search needs
 
--- src/admission.rt:120:5
 loop-less : tie.Need-loop-less Inv-loop μ-loop
 loop-less c = search needs
 
--- src/admission.rt:120:5
 loop-again : tie.Need-loop-again Inv-loop μ-loop
 loop-again c = (omega arith, skip-one _ _ _ (c .before .before .loop .inv .1) (c .after-edge .ensures))
 
--- src/admission.rt:111:1
 returns : tie.Need-returns Inv-loop μ-loop
 returns c = let e : c .before .loop .i ≡ c .before .before .before .before .before .args .number = omega arith in
     rw e at (c .before .loop .inv .1)

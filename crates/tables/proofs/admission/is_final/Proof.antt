@@ -4,35 +4,25 @@ use Rattle.tables.proofs.Laws.Described.{location-sized, location-says}
 use borrow.Author.Needs.{needs}
 use Rattle.tables.proofs.admission.is_final.Statement.{statement}
 use Rattle.tables.proofs.admission.is_final.Tie as tie
-use Rattle.tables.proofs.admission.is_final.Reads as reads
-use Rattle.tables.proofs.admission.is_final.Lts as lts
-use Rattle.tables.proofs.record.part.Reads as part-reads
 
--- src/admission.rt:105:19
 cast-at : tie.Need-cast-at
 cast-at c = search needs
 
--- src/admission.rt:105:14
 add-at : tie.Need-add-at
 add-at c = search needs
 
--- src/admission.rt:105:44
 mul-at : tie.Need-mul-at
 mul-at c = search needs
 
--- src/admission.rt:105:14
 add-at-2 : tie.Need-add-at-2
 add-at-2 c = search needs
 
--- src/admission.rt:106:9
 part-requires : tie.Need-part-requires
 part-requires c κs = search needs
 
--- src/admission.rt:107:5
 shared-slice-read-result : tie.Need-shared-slice-read-result
 shared-slice-read-result c = omega (arith, location-sized (now (c .before .before .before .before .before .args .file)) _ (c .before .before .before .before .before .pre .0) (c .before .before .before .before .before .args .location) (c .before .before .before .before .before .pre .1) (c .before .part .ensures))
 
--- src/admission.rt:99:1
 returns : tie.Need-returns
 returns c = location-says (now (c .before .before .before .before .before .args .file)) _ (c .before .before .before .before .before .pre .0) (c .before .before .before .before .before .args .location) (c .before .before .before .before .before .pre .1) (c .before .part .ensures)
 

@@ -1,42 +1,31 @@
 use borrow.Author.Needs.{needs}
 use Rattle.tables.proofs.answer.packed.Statement.{statement}
 use Rattle.tables.proofs.answer.packed.Tie as tie
-use Rattle.tables.proofs.answer.packed.Reads as reads
-use Rattle.tables.proofs.answer.packed.Lts as lts
 
--- src/answer.rt:16:26
 enum-known-a : tie.Need-enum-known-a
 enum-known-a c = search needs
 
--- src/answer.rt:16:36
 cast-result : tie.Need-cast-result
 cast-result c = search needs
 
--- src/answer.rt:17:25
 enum-known-a-2 : tie.Need-enum-known-a-2
 enum-known-a-2 c = search needs
 
--- src/answer.rt:17:44
 cast-result-2 : tie.Need-cast-result-2
 cast-result-2 c = search needs
 
--- src/answer.rt:17:43
 mul-result : tie.Need-mul-result
 mul-result c = search needs
 
--- src/answer.rt:17:70
 cast-result-3 : tie.Need-cast-result-3
 cast-result-3 c = search needs
 
--- src/answer.rt:17:43
 add-result : tie.Need-add-result
 add-result c = search needs
 
--- src/answer.rt:12:1
 returns : tie.Need-returns
 returns c = search needs
 
--- src/answer.rt:12:1
 returns-2 : tie.Need-returns-2
 returns-2 c = rw (c .before .a2 .given .1)
 

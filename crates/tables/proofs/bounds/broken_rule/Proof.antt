@@ -4,39 +4,27 @@ use Rattle.tables.proofs.Laws.Bounds.{breaks-guards, breaks-constants, 
 use borrow.Author.Needs.{needs}
 use Rattle.tables.proofs.bounds.broken_rule.Statement.{statement}
 use Rattle.tables.proofs.bounds.broken_rule.Tie as tie
-use Rattle.tables.proofs.bounds.broken_rule.Reads as reads
-use Rattle.tables.proofs.bounds.broken_rule.Lts as lts
-use Rattle.tables.proofs.bounds.clocks_bounded.Reads as clocks-bounded-reads
-use Rattle.tables.proofs.bounds.constants_bounded.Reads as constants-bounded-reads
-use Rattle.tables.proofs.bounds.guards_bounded.Reads as guards-bounded-reads
 
--- src/bounds.rt:122:9
 guards-bounded-requires : tie.Need-guards-bounded-requires
 guards-bounded-requires c κs = search needs
 
--- src/bounds.rt:123:9
 returns : tie.Need-returns
 returns c = breaks-guards _ _ (sym (c .before .guards-bounded .ensures) ∙ not-true _ (c .if1 .taken))
 
--- src/bounds.rt:125:9
-constants-bounded-requires : tie.Need-constants-bounded-requires
-constants-bounded-requires c κs = search needs
+updates-bounded-requires : tie.Need-updates-bounded-requires
+updates-bounded-requires c κs = search needs
 
--- src/bounds.rt:126:9
 returns-2 : tie.Need-returns-2
-returns-2 c = breaks-constants _ _ (sym (c .before .before .before .guards-bounded .ensures) ∙ not-false _ (c .before .before .if1 .left)) (sym (c .before .constants-bounded .ensures) ∙ not-true _ (c .if2 .taken))
+returns-2 c = breaks-constants _ _ (sym (c .before .before .before .guards-bounded .ensures) ∙ not-false _ (c .before .before .if1 .left)) (sym (c .before .updates-bounded .ensures) ∙ not-true _ (c .if2 .taken))
 
--- src/bounds.rt:128:9
-clocks-bounded-requires : tie.Need-clocks-bounded-requires
-clocks-bounded-requires c κs = search needs
+updates-bounded-requires-2 : tie.Need-updates-bounded-requires-2
+updates-bounded-requires-2 c κs = search needs
 
--- src/bounds.rt:129:9
 returns-3 : tie.Need-returns-3
-returns-3 c = breaks-clocks _ _ (sym (c .before .before .before .before .before .guards-bounded .ensures) ∙ not-false _ (c .before .before .before .before .if1 .left)) (sym (c .before .before .before .constants-bounded .ensures) ∙ not-false _ (c .before .before .if2 .left)) (sym (c .before .clocks-bounded .ensures) ∙ not-true _ (c .if3 .taken))
+returns-3 c = breaks-clocks _ _ (sym (c .before .before .before .before .before .guards-bounded .ensures) ∙ not-false _ (c .before .before .before .before .if1 .left)) (sym (c .before .before .before .updates-bounded .ensures) ∙ not-false _ (c .before .before .if2 .left)) (sym (c .before .updates-bounded2 .ensures) ∙ not-true _ (c .if3 .taken))
 
--- src/bounds.rt:117:1
 returns-4 : tie.Need-returns-4
-returns-4 c = breaks-none _ _ (sym (c .before .before .before .before .before .guards-bounded .ensures) ∙ not-false _ (c .before .before .before .before .if1 .left)) (sym (c .before .before .before .constants-bounded .ensures) ∙ not-false _ (c .before .before .if2 .left)) (sym (c .before .clocks-bounded .ensures) ∙ not-false _ (c .if3 .left))
+returns-4 c = breaks-none _ _ (sym (c .before .before .before .before .before .guards-bounded .ensures) ∙ not-false _ (c .before .before .before .before .if1 .left)) (sym (c .before .before .before .updates-bounded .ensures) ∙ not-false _ (c .before .before .if2 .left)) (sym (c .before .updates-bounded2 .ensures) ∙ not-false _ (c .if3 .left))
 
 pub broken-rule-spec : {M : Type 1} → statement M
 broken-rule-spec =
@@ -44,8 +32,8 @@ broken-rule-spec =
     (tie.spec
     guards-bounded-requires
     returns
-    constants-bounded-requires
+    updates-bounded-requires
     returns-2
-    clocks-bounded-requires
+    updates-bounded-requires-2
     returns-3
     returns-4)

@@ -1,63 +1,46 @@
 use borrow.Author.Needs.{needs}
 use Rattle.tables.proofs.bounds.clock_bounded.Statement.{statement}
 use Rattle.tables.proofs.bounds.clock_bounded.Tie as tie
-use Rattle.tables.proofs.bounds.clock_bounded.Reads as reads
-use Rattle.tables.proofs.bounds.clock_bounded.Lts as lts
-use Rattle.tables.proofs.bounds.bound.Reads as bound-reads
 
--- src/bounds.rt:89:25
 enum-told : tie.Need-enum-told
 enum-told c = search needs
 
--- src/bounds.rt:90:32
 enum-told-2 : tie.Need-enum-told-2
 enum-told-2 c = search needs
 
--- src/bounds.rt:91:23
 enum-known-a : tie.Need-enum-known-a
 enum-known-a c = search needs
 
--- src/bounds.rt:92:14
 bound-requires : tie.Need-bound-requires
 bound-requires c κs = search needs
 
--- src/bounds.rt:92:14
 cast-result : tie.Need-cast-result
 cast-result c = search needs
 
--- src/bounds.rt:92:42
 cast-result-2 : tie.Need-cast-result-2
 cast-result-2 c = search needs
 
--- src/bounds.rt:92:13
 add-result : tie.Need-add-result
 add-result c = search needs
 
--- src/bounds.rt:92:59
 bound-requires-2 : tie.Need-bound-requires-2
 bound-requires-2 c κs = search needs
 
--- src/bounds.rt:92:59
 cast-result-3 : tie.Need-cast-result-3
 cast-result-3 c = search needs
 
--- src/bounds.rt:92:87
 cast-result-4 : tie.Need-cast-result-4
 cast-result-4 c = search needs
 
--- src/bounds.rt:92:58
 add-result-2 : tie.Need-add-result-2
 add-result-2 c = search needs
 
--- src/bounds.rt:84:1
 returns : tie.Need-returns
 returns c = search needs
 
--- src/bounds.rt:84:1
 returns-2 : tie.Need-returns-2
 returns-2 c = search needs
 
--- src/bounds.rt:84:1
 returns-3 : tie.Need-returns-3
 returns-3 c = rw (c .before .before .before .a .given .1, c .before .bound .ensures, c .bound2 .ensures)
 

@@ -9,13 +9,6 @@ use Rattle.tables.proofs.Laws.Bounds.{Unbroken, all-unbroken, none-brok
 use borrow.Author.Needs.{needs}
 use Rattle.tables.proofs.bounds.edges_bounded.Statement.{statement}
 use Rattle.tables.proofs.bounds.edges_bounded.Tie as tie
-use Rattle.tables.proofs.bounds.edges_bounded.Reads as reads
-use Rattle.tables.proofs.bounds.edges_bounded.Lts as lts
-use Rattle.tables.proofs.bounds.broken_rule.Reads as broken-rule-reads
-use Rattle.tables.proofs.decode.after_edge.Reads as after-edge-reads
-use Rattle.tables.proofs.decode.edge_from.Reads as edge-from-reads
-use Rattle.tables.proofs.scan.reached.Reads as reached-reads
-use Rattle.tables.proofs.scan.refused.Reads as refused-reads
 
 abbrev Inv-loop : tie.InvT-loop
 Inv-loop file at clocks n here₀ place₀ stop here place = Unbroken (bounds-of clocks) n file (edges-bounded (bounds-of clocks) place₀ (edges-at n file (stop - place₀) at) (drop (length file) file)) stop here place
@@ -23,59 +16,45 @@ Inv-loop file at clocks n here₀ place₀ stop here place = Unbroken (bounds-of
 abbrev μ-loop : tie.MeasureT-loop
 μ-loop file at clocks n here₀ place₀ stop here place = stop - place
 
--- src/bounds.rt:144:26
 cast-place : tie.Need-cast-place Inv-loop μ-loop
 cast-place c = search needs
 
--- src/bounds.rt:144:21
 add-place : tie.Need-add-place Inv-loop μ-loop
 add-place c = search needs
 
--- src/bounds.rt:145:16
 add-stop : tie.Need-add-stop Inv-loop μ-loop
 add-stop c = search needs
 
--- src/bounds.rt:146:5
 loop-holds : tie.Need-loop-holds Inv-loop μ-loop
 loop-holds c = all-unbroken _ _ _ _ _ _ _ (omega arith) (rw add-sub-cancel-left (c .before .before .before .before .pre .1 .1))
 
--- src/bounds.rt:147:34
 edge-from-requires : tie.Need-edge-from-requires Inv-loop μ-loop
 edge-from-requires c κs = (stands-here _ _ _ _ _ _ (c .before .loop .inv) (c .loop-test .taken), c .before .before .before .before .before .before .pre .0)
 
--- src/bounds.rt:147:13
 broken-rule-requires : tie.Need-broken-rule-requires Inv-loop μ-loop
 broken-rule-requires c κs = (c .before .before .before .before .before .before .before .pre .0, c .edge-from .ensures .1)
 
--- src/bounds.rt:149:13
 refused-requires : tie.Need-refused-requires Inv-loop μ-loop
 refused-requires c κs = search needs
 
--- src/bounds.rt:149:13
 returns : tie.Need-returns Inv-loop μ-loop
 returns c = rw add-sub-cancel-left at (one-broken _ _ _ _ _ _ (c .before .before .before .before .before .loop .inv) (c .before .before .before .before .loop-test .taken) (c .before .before .before .edge-from .ensures .0) (c .before .before .broken-rule .ensures) (c .before .if1 .taken) (c .refused .result) (c .refused .ensures))
 
--- src/bounds.rt:151:9
 after-edge-requires : tie.Need-after-edge-requires Inv-loop μ-loop
 after-edge-requires c κs = stands-here _ _ _ _ _ _ (c .before .before .before .before .loop .inv) (c .before .before .before .loop-test .taken)
 
--- src/bounds.rt:152:9
 add-place-2 : tie.Need-add-place-2 Inv-loop μ-loop
 add-place-2 c = search needs
 
--- src/bounds.rt:146:5
 loop-less : tie.Need-loop-less Inv-loop μ-loop
 loop-less c = search needs
 
--- src/bounds.rt:146:5
 loop-again : tie.Need-loop-again Inv-loop μ-loop
 loop-again c = one-unbroken _ _ _ _ _ _ (c .before .before .before .before .before .loop .inv) (c .before .before .before .before .loop-test .taken) (c .before .before .before .edge-from .ensures .0) (c .before .before .broken-rule .ensures) (c .before .if1 .left) (c .after-edge .ensures)
 
--- src/bounds.rt:154:5
 reached-requires : tie.Need-reached-requires Inv-loop μ-loop
 reached-requires c κs = search needs
 
--- src/bounds.rt:135:1
 returns-2 : tie.Need-returns-2 Inv-loop μ-loop
 returns-2 c = rw add-sub-cancel-left at (none-broken _ _ _ _ _ _ (c .before .before .loop .inv) (c .before .loop-test .left) (c .reached .result) (c .reached .ensures))
 

@@ -5,14 +5,11 @@ use lib.ListN.{length, getD}
 use native.Mathlib.Omega.{arith}
 use borrow.Author.Tests.{not-true, not-false}
 use mathlib.Core.Path.{_≡_, sym, _∙_}
-use Prim.Native.Nat.{ℕ, _-_, _≤_}
+use Prim.Native.Nat.{ℕ, _-_}
 use Rattle.tables.proofs.Laws.Loops.{length-mapped, Passed, none-tested, all-tested, one-passes, one-fails}
 use borrow.Author.Needs.{needs}
 use Rattle.tables.proofs.bounds.guards_bounded.Statement.{statement}
 use Rattle.tables.proofs.bounds.guards_bounded.Tie as tie
-use Rattle.tables.proofs.bounds.guards_bounded.Reads as reads
-use Rattle.tables.proofs.bounds.guards_bounded.Lts as lts
-use Rattle.tables.proofs.bounds.guard_bounded.Reads as guard-bounded-reads
 
 abbrev Inv-loop : tie.InvT-loop
 Inv-loop clocks e n i₀ i = Passed (λ (i : ℕ). guard-bounded (bounds-of clocks) (guard-of (getD (e .guards) i no-guard))) n i
@@ -20,44 +17,34 @@ Inv-loop clocks e n i₀ i = Passed (λ (i : ℕ). guard-bounded (bounds-of cloc
 abbrev μ-loop : tie.MeasureT-loop
 μ-loop clocks e n i₀ i = n - i
 
--- src/bounds.rt:42:13
 cast-n : tie.Need-cast-n Inv-loop μ-loop
 cast-n c = search needs
 
--- src/bounds.rt:44:5
 loop-holds : tie.Need-loop-holds Inv-loop μ-loop
 loop-holds c = none-tested
 
--- src/bounds.rt:45:17
 mul-g : tie.Need-mul-g Inv-loop μ-loop
 mul-g c = search needs
 
--- src/bounds.rt:45:17
 element-copy-out-g : tie.Need-element-copy-out-g Inv-loop μ-loop
 element-copy-out-g c = search needs
 
--- src/bounds.rt:46:13
 guard-bounded-requires : tie.Need-guard-bounded-requires Inv-loop μ-loop
 guard-bounded-requires c κs = search needs
 
--- src/bounds.rt:47:13
 returns : tie.Need-returns Inv-loop μ-loop
 returns c = let long : length (c .before .before .before .before .before .args .t1 .guards) ≡ 8 = search (needs, length-mapped) in
     sym (guards-each (c .before .before .before .before .before .args .clocks) (c .before .before .before .before .before .args .t1) (omega arith) ∙ one-fails (c .before .before .before .before .loop .inv) (c .before .before .before .loop-test .taken) (sym (c .before .guard-bounded .ensures) ∙ not-true _ (c .if1 .taken)))
 
--- src/bounds.rt:49:9
 add-i : tie.Need-add-i Inv-loop μ-loop
 add-i c = search needs
 
--- src/bounds.rt:44:5
 loop-less : tie.Need-loop-less Inv-loop μ-loop
 loop-less c = search needs
 
--- src/bounds.rt:44:5
 loop-again : tie.Need-loop-again Inv-loop μ-loop
 loop-again c = one-passes (c .before .before .before .before .loop .inv) (c .before .before .before .loop-test .taken) (sym (c .before .guard-bounded .ensures) ∙ not-false _ (c .if1 .left))
 
--- src/bounds.rt:37:1
 returns-2 : tie.Need-returns-2 Inv-loop μ-loop
 returns-2 c = let long : length (c .before .before .args .t1 .guards) ≡ 8 = search (needs, length-mapped) in
     sym (guards-each (c .before .before .args .clocks) (c .before .before .args .t1) (omega arith) ∙ all-tested (c .before .loop .inv) (c .loop-test .left))

@@ -2,28 +2,19 @@ use borrow.Author.Tests.{eq-eqb, ne-eqb}
 use borrow.Author.Needs.{needs}
 use Rattle.tables.proofs.decode.action_from.Statement.{statement}
 use Rattle.tables.proofs.decode.action_from.Tie as tie
-use Rattle.tables.proofs.decode.action_from.Reads as reads
-use Rattle.tables.proofs.decode.action_from.Lts as lts
-use Rattle.tables.proofs.edge.down.Reads as down-reads
-use Rattle.tables.proofs.edge.up.Reads as up-reads
 
--- src/decode.rt:50:9
 returns : tie.Need-returns
 returns c = rw (eq-eqb _ _ (c .if1 .taken))
 
--- src/decode.rt:53:9
 returns-2 : tie.Need-returns-2
 returns-2 c = rw (ne-eqb _ _ (c .before .if1 .left), eq-eqb _ _ (c .if2 .taken))
 
--- src/decode.rt:55:22
 up-requires : tie.Need-up-requires
 up-requires c κs = search needs
 
--- src/decode.rt:55:34
 down-requires : tie.Need-down-requires
 down-requires c κs = search needs
 
--- src/decode.rt:46:1
 returns-3 : tie.Need-returns-3
 returns-3 c = rw (ne-eqb _ _ (c .before .before .before .if1 .left), ne-eqb _ _ (c .before .before .if2 .left), c .before .up .ensures, c .down .ensures)
 

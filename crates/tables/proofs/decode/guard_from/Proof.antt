@@ -3,34 +3,25 @@ use native.Mathlib.Omega.{arith}
 use borrow.Author.Needs.{needs}
 use Rattle.tables.proofs.decode.guard_from.Statement.{statement}
 use Rattle.tables.proofs.decode.guard_from.Tie as tie
-use Rattle.tables.proofs.decode.guard_from.Reads as reads
-use Rattle.tables.proofs.decode.guard_from.Lts as lts
 
--- src/decode.rt:19:16
 shared-slice-read-t4 : tie.Need-shared-slice-read-t4
 shared-slice-read-t4 c = search needs
 
--- src/decode.rt:20:27
 add-t5 : tie.Need-add-t5
 add-t5 c = search needs
 
--- src/decode.rt:20:21
 shared-slice-read-t7 : tie.Need-shared-slice-read-t7
 shared-slice-read-t7 c = search needs
 
--- src/decode.rt:21:25
 add-t8 : tie.Need-add-t8
 add-t8 c = search needs
 
--- src/decode.rt:21:19
 shared-slice-read-t10 : tie.Need-shared-slice-read-t10
 shared-slice-read-t10 c = search needs
 
--- src/decode.rt:21:19
 cast-t11 : tie.Need-cast-t11
 cast-t11 c = omega (arith, c .shared-slice-known3 .given (c .before .before .before .args .at + 2))
 
--- src/decode.rt:14:1
 returns : tie.Need-returns
 returns c = search needs
 

@@ -3,15 +3,12 @@ use mathlib.Core.Path.{sym, _∙_}
 use denote.Ref.{now}
 use Prim.Native.Nat.{ℕ, _+_, _*_, _-_, _≤_}
 use native.Mathlib.Omega.{arith}
-use Rattle.regions.specs.Values.{guard-of, update-of}
-use Rattle.tables.specs.TableFile.{guard, fields, update}
+use Rattle.regions.specs.Values.{update-of}
+use Rattle.tables.specs.TableFile.{fields, update}
 use Rattle.tables.proofs.Laws.Loops.{Filled, none-filled, one-filled, all-filled, map-twice}
 use borrow.Author.Needs.{needs}
 use Rattle.tables.proofs.decode.updates_from.Statement.{statement}
 use Rattle.tables.proofs.decode.updates_from.Tie as tie
-use Rattle.tables.proofs.decode.updates_from.Reads as reads
-use Rattle.tables.proofs.decode.updates_from.Lts as lts
-use Rattle.tables.proofs.decode.update_from.Reads as update-from-reads
 
 abbrev Inv-loop : tie.InvT-loop
 Inv-loop bytes first clocks updates₀ z₀ updates z = (z ≤ clocks) × Filled update-of (λ (z : ℕ). update (fields bytes (first + 5 * z))) 4 z updates
@@ -19,43 +16,33 @@ Inv-loop bytes first clocks updates₀ z₀ updates z = (z ≤ clocks) × Filled
 abbrev μ-loop : tie.MeasureT-loop
 μ-loop bytes first clocks updates₀ z₀ updates z = clocks - z
 
--- src/decode.rt:81:5
 loop-holds : tie.Need-loop-holds Inv-loop μ-loop
 loop-holds c = (omega arith, none-filled (search needs))
 
--- src/decode.rt:82:44
 mul-update-from : tie.Need-mul-update-from Inv-loop μ-loop
 mul-update-from c = search needs
 
--- src/decode.rt:82:36
 add-update-from : tie.Need-add-update-from Inv-loop μ-loop
 add-update-from c = search needs
 
--- src/decode.rt:82:13
 update-from-requires : tie.Need-update-from-requires Inv-loop μ-loop
 update-from-requires c κs = search needs
 
--- src/decode.rt:83:9
 mul-updates : tie.Need-mul-updates Inv-loop μ-loop
 mul-updates c = search needs
 
--- src/decode.rt:83:9
 array-set-from-updates : tie.Need-array-set-from-updates Inv-loop μ-loop
 array-set-from-updates c = search needs
 
--- src/decode.rt:84:9
 add-z : tie.Need-add-z Inv-loop μ-loop
 add-z c = search needs
 
--- src/decode.rt:81:5
 loop-less : tie.Need-loop-less Inv-loop μ-loop
 loop-less c = search needs
 
--- src/decode.rt:81:5
 loop-again : tie.Need-loop-again Inv-loop μ-loop
 loop-again c = (omega arith, one-filled (c .before .before .loop .inv .1) _ (omega arith) (c .update-from .ensures))
 
--- src/decode.rt:71:1
 returns : tie.Need-returns Inv-loop μ-loop
 returns c = let a = c .before .before .before .args in
     all-filled (c .before .loop .inv .1) (a .clocks) (omega arith) ∙ sym (map-twice update (λ (z : ℕ). fields (now (a .bytes)) (a .first + 5 * z)) (from 0 (a .clocks)))

@@ -8,10 +8,6 @@ use Rattle.tables.proofs.Laws.Scan.{Left, all-left, none-left, one-refu
 use borrow.Author.Needs.{needs}
 use Rattle.tables.proofs.edge.edges.Statement.{statement}
 use Rattle.tables.proofs.edge.edges.Tie as tie
-use Rattle.tables.proofs.edge.edges.Reads as reads
-use Rattle.tables.proofs.edge.edges.Lts as lts
-use Rattle.tables.proofs.edge.edge_record.Reads as edge-record-reads
-use Rattle.tables.proofs.scan.reached.Reads as reached-reads
 
 abbrev Inv-loop : tie.InvT-loop
 Inv-loop file at clocks locations here₀ place₀ stop here place = Left (edge-record clocks locations) file (records (edge-record clocks locations) place₀ (stop - place₀) (drop at file)) stop here place
@@ -19,47 +15,36 @@ Inv-loop file at clocks locations here₀ place₀ stop here place = Left (edge-
 abbrev μ-loop : tie.MeasureT-loop
 μ-loop file at clocks locations here₀ place₀ stop here place = stop - place
 
--- src/edge.rt:204:26
 cast-place : tie.Need-cast-place Inv-loop μ-loop
 cast-place c = search needs
 
--- src/edge.rt:204:21
 add-place : tie.Need-add-place Inv-loop μ-loop
 add-place c = search needs
 
--- src/edge.rt:205:16
 add-stop : tie.Need-add-stop Inv-loop μ-loop
 add-stop c = search needs
 
--- src/edge.rt:206:5
 loop-holds : tie.Need-loop-holds Inv-loop μ-loop
 loop-holds c = all-left (edge-record _ _) _ _ _ _ _ (omega arith) (omega arith)
 
--- src/edge.rt:207:13
 edge-record-requires : tie.Need-edge-record-requires Inv-loop μ-loop
 edge-record-requires c κs = search needs
 
--- src/edge.rt:209:13
 returns : tie.Need-returns Inv-loop μ-loop
 returns c = rw add-sub-cancel-left at (one-refused (edge-record _ _) _ _ _ _ _ (c .before .before .before .before .loop .inv) _ (c .before .before .edge-record .ensures) (c .before .before .before .loop-test .taken) (c .if1 .taken))
 
--- src/edge.rt:212:9
 add-place-2 : tie.Need-add-place-2 Inv-loop μ-loop
 add-place-2 c = search needs
 
--- src/edge.rt:206:5
 loop-less : tie.Need-loop-less Inv-loop μ-loop
 loop-less c = search needs
 
--- src/edge.rt:206:5
 loop-again : tie.Need-loop-again Inv-loop μ-loop
 loop-again c = one-read (edge-record _ _) _ _ _ _ _ (c .before .before .before .before .loop .inv) _ (c .before .before .edge-record .ensures) (c .before .before .before .loop-test .taken) (c .if1 .left)
 
--- src/edge.rt:214:5
 reached-requires : tie.Need-reached-requires Inv-loop μ-loop
 reached-requires c κs = search needs
 
--- src/edge.rt:196:1
 returns-2 : tie.Need-returns-2 Inv-loop μ-loop
 returns-2 c = rw add-sub-cancel-left at (none-left (edge-record _ _) _ _ _ _ _ (c .before .before .loop .inv) (c .before .loop-test .left) (c .reached .result) (c .reached .ensures))
 

@@ -1,34 +1,26 @@
 use Rattle.tables.specs.Edge.{ends-in-range}
-use borrow.Author.Tests.{le-leb, lt-leb, lt-ltb, le-ltb, eq-eqb, ne-eqb}
+use borrow.Author.Tests.{lt-ltb, le-ltb}
 use borrow.Author.Needs.{needs}
 use Rattle.tables.proofs.edge.ends_pass.Statement.{statement}
 use Rattle.tables.proofs.edge.ends_pass.Tie as tie
-use Rattle.tables.proofs.edge.ends_pass.Reads as reads
-use Rattle.tables.proofs.edge.ends_pass.Lts as lts
 
--- src/edge.rt:23:21
 shared-slice-read-if1 : tie.Need-shared-slice-read-if1
 shared-slice-read-if1 c = search needs
 
--- src/edge.rt:24:9
 returns : tie.Need-returns
 unfolding ends-in-range
 returns c = rw (le-ltb _ _ (c .if1 .taken))
 
--- src/edge.rt:26:21
 shared-slice-read-if2 : tie.Need-shared-slice-read-if2
 shared-slice-read-if2 c = search needs
 
--- src/edge.rt:27:9
 returns-2 : tie.Need-returns-2
 unfolding ends-in-range
 returns-2 c = rw (lt-ltb _ _ (c .before .before .if1 .left), le-ltb _ _ (c .if2 .taken))
 
--- src/edge.rt:29:5
 shared-slice-read-result : tie.Need-shared-slice-read-result
 shared-slice-read-result c = search needs
 
--- src/edge.rt:19:1
 returns-3 : tie.Need-returns-3
 unfolding ends-in-range
 returns-3 c = rw (lt-ltb _ _ (c .before .before .before .if1 .left), lt-ltb _ _ (c .before .if2 .left))

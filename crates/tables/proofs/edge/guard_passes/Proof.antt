@@ -1,39 +1,29 @@
-use borrow.Author.Tests.{le-leb, lt-leb, lt-ltb, le-ltb, eq-eqb, ne-eqb}
+use borrow.Author.Tests.{le-leb, lt-leb, lt-ltb, le-ltb}
 use borrow.Author.Needs.{needs}
 use Rattle.tables.proofs.edge.guard_passes.Statement.{statement}
 use Rattle.tables.proofs.edge.guard_passes.Tie as tie
-use Rattle.tables.proofs.edge.guard_passes.Reads as reads
-use Rattle.tables.proofs.edge.guard_passes.Lts as lts
 
--- src/edge.rt:37:18
 shared-slice-read-if1 : tie.Need-shared-slice-read-if1
 shared-slice-read-if1 c = search needs
 
--- src/edge.rt:38:9
 returns : tie.Need-returns
 returns c = rw (le-ltb _ _ (c .if1 .taken))
 
--- src/edge.rt:40:18
 add-if2 : tie.Need-add-if2
 add-if2 c = search needs
 
--- src/edge.rt:40:12
 shared-slice-read-if2 : tie.Need-shared-slice-read-if2
 shared-slice-read-if2 c = search needs
 
--- src/edge.rt:41:9
 returns-2 : tie.Need-returns-2
 returns-2 c = rw (lt-ltb _ _ (c .before .before .if1 .left), lt-leb _ _ (c .if2 .taken))
 
--- src/edge.rt:43:11
 add-result : tie.Need-add-result
 add-result c = search needs
 
--- src/edge.rt:43:5
 shared-slice-read-result : tie.Need-shared-slice-read-result
 shared-slice-read-result c = search needs
 
--- src/edge.rt:33:1
 returns-3 : tie.Need-returns-3
 returns-3 c = rw (lt-ltb _ _ (c .before .before .before .if1 .left), le-leb _ _ (c .before .if2 .left))
 

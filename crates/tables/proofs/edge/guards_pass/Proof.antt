@@ -1,16 +1,13 @@
 use borrow.Author.Tests.{not-true, not-false}
-use Prim.Native.Nat.{ℕ, _+_, _*_, _-_}
+use Prim.Native.Nat.{ℕ, _*_, _-_}
 use mathlib.Core.Path.{sym, _∙_}
-use Rattle.tables.specs.TableFile.{guard, guard-in-range, fields, fields-in-range}
+use Rattle.tables.specs.TableFile.{guard, guard-in-range}
 use Rattle.regions.specs.Rows.{from}
 use denote.Ref.{now}
 use Rattle.tables.proofs.Laws.Loops.{Passed, none-tested, all-tested, one-passes, one-fails, every-map}
 use borrow.Author.Needs.{needs}
 use Rattle.tables.proofs.edge.guards_pass.Statement.{statement}
 use Rattle.tables.proofs.edge.guards_pass.Tie as tie
-use Rattle.tables.proofs.edge.guards_pass.Reads as reads
-use Rattle.tables.proofs.edge.guards_pass.Lts as lts
-use Rattle.tables.proofs.edge.guard_passes.Reads as guard-passes-reads
 
 abbrev Inv-loop : tie.InvT-loop
 Inv-loop bytes count clocks n i₀ i = Passed (λ (i : ℕ). guard-in-range clocks (guard bytes (3 * i))) n i
@@ -18,35 +15,27 @@ Inv-loop bytes count clocks n i₀ i = Passed (λ (i : ℕ). guard-in-range cloc
 abbrev μ-loop : tie.MeasureT-loop
 μ-loop bytes count clocks n i₀ i = n - i
 
--- src/edge.rt:53:5
 loop-holds : tie.Need-loop-holds Inv-loop μ-loop
 loop-holds c = none-tested
 
--- src/edge.rt:54:33
 mul-guard-passes : tie.Need-mul-guard-passes Inv-loop μ-loop
 mul-guard-passes c = search needs
 
--- src/edge.rt:54:13
 guard-passes-requires : tie.Need-guard-passes-requires Inv-loop μ-loop
 guard-passes-requires c κs = search needs
 
--- src/edge.rt:55:13
 returns : tie.Need-returns Inv-loop μ-loop
 returns c = sym (every-map (guard-in-range (c .before .before .before .before .before .args .clocks)) (λ (i : ℕ). guard (now (c .before .before .before .before .before .args .bytes)) (3 * i)) (from 0 (c .before .before .before .before .before .args .count)) ∙ one-fails (c .before .before .before .loop .inv) (c .before .before .loop-test .taken) (sym (c .before .guard-passes .ensures) ∙ not-true _ (c .if1 .taken)))
 
--- src/edge.rt:57:9
 add-i : tie.Need-add-i Inv-loop μ-loop
 add-i c = search needs
 
--- src/edge.rt:53:5
 loop-less : tie.Need-loop-less Inv-loop μ-loop
 loop-less c = search needs
 
--- src/edge.rt:53:5
 loop-again : tie.Need-loop-again Inv-loop μ-loop
 loop-again c = one-passes (c .before .before .before .loop .inv) (c .before .before .loop-test .taken) (sym (c .before .guard-passes .ensures) ∙ not-false _ (c .if1 .left))
 
--- src/edge.rt:47:1
 returns-2 : tie.Need-returns-2 Inv-loop μ-loop
 returns-2 c = sym (every-map (guard-in-range (c .before .before .before .args .clocks)) (λ (i : ℕ). guard (now (c .before .before .before .args .bytes)) (3 * i)) (from 0 (c .before .before .before .args .count)) ∙ all-tested (c .before .loop .inv) (c .loop-test .left))
 

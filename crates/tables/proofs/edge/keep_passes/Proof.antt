@@ -1,18 +1,13 @@
-use borrow.Author.Tests.{le-leb, lt-leb, lt-ltb, le-ltb, eq-eqb, ne-eqb}
+use borrow.Author.Tests.{eq-eqb, ne-eqb}
 use Rattle.tables.proofs.edge.keep_passes.Statement.{statement}
 use Rattle.tables.proofs.edge.keep_passes.Tie as tie
-use Rattle.tables.proofs.edge.keep_passes.Reads as reads
-use Rattle.tables.proofs.edge.keep_passes.Lts as lts
 
--- src/edge.rt:87:9
 returns : tie.Need-returns
 returns c = rw (ne-eqb _ _ (c .if1 .taken))
 
--- src/edge.rt:90:9
 returns-2 : tie.Need-returns-2
 returns-2 c = rw (eq-eqb _ _ (c .before .if1 .left), ne-eqb _ _ (c .if2 .taken))
 
--- src/edge.rt:83:1
 returns-3 : tie.Need-returns-3
 returns-3 c = rw (eq-eqb _ _ (c .before .if1 .left), eq-eqb _ _ (c .if2 .left))
 

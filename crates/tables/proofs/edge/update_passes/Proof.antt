@@ -1,73 +1,52 @@
-use mathlib.Core.Path.{_∙_}
 use denote.Ref.{now}
 use Rattle.tables.specs.TableFile.{fields}
 use Rattle.tables.proofs.Laws.Edges.{keep-in-range, constant-in-range, clock-in-range, no-kind}
 use borrow.Author.Needs.{needs}
 use Rattle.tables.proofs.edge.update_passes.Statement.{statement}
 use Rattle.tables.proofs.edge.update_passes.Tie as tie
-use Rattle.tables.proofs.edge.update_passes.Reads as reads
-use Rattle.tables.proofs.edge.update_passes.Lts as lts
-use Rattle.tables.proofs.edge.clock_passes.Reads as clock-passes-reads
-use Rattle.tables.proofs.edge.constant_passes.Reads as constant-passes-reads
-use Rattle.tables.proofs.edge.keep_passes.Reads as keep-passes-reads
-use Rattle.tables.proofs.record.two_bytes.Reads as two-bytes-reads
 
--- src/edge.rt:129:16
 shared-slice-read-kind : tie.Need-shared-slice-read-kind
 shared-slice-read-kind c = search needs
 
--- src/edge.rt:130:28
 add-comparison : tie.Need-add-comparison
 add-comparison c = search needs
 
--- src/edge.rt:130:22
 shared-slice-read-comparison : tie.Need-shared-slice-read-comparison
 shared-slice-read-comparison c = search needs
 
--- src/edge.rt:131:19
 add-y : tie.Need-add-y
 add-y c = search needs
 
--- src/edge.rt:131:13
 shared-slice-read-y : tie.Need-shared-slice-read-y
 shared-slice-read-y c = search needs
 
--- src/edge.rt:132:35
 add-two-bytes : tie.Need-add-two-bytes
 add-two-bytes c = search needs
 
--- src/edge.rt:132:9
 two-bytes-requires : tie.Need-two-bytes-requires
 two-bytes-requires c κs = search needs
 
--- src/edge.rt:134:9
 keep-passes-requires : tie.Need-keep-passes-requires
 keep-passes-requires c κs = search needs
 
--- src/edge.rt:134:9
 returns : tie.Need-returns
 returns c = let a = c .before .before .before .before .before .before .before .args in
-    c .keep-passes .ensures ∙ rw (c .before .before .two-bytes .ensures) (keep-in-range _ (fields (now (a .bytes)) (a .at)) (c .before .if1 .taken))
+    keep-in-range _ (fields (now (a .bytes)) (a .at)) (c .before .before .two-bytes .ensures) (c .before .if1 .taken) (c .keep-passes .ensures)
 
--- src/edge.rt:137:9
 constant-passes-requires : tie.Need-constant-passes-requires
 constant-passes-requires c κs = search needs
 
--- src/edge.rt:137:9
 returns-2 : tie.Need-returns-2
 returns-2 c = let a = c .before .before .before .before .before .before .before .before .args in
-    c .constant-passes .ensures ∙ rw (c .before .before .before .two-bytes .ensures) (constant-in-range _ (fields (now (a .bytes)) (a .at)) (c .before .if2 .taken))
+    constant-in-range _ (fields (now (a .bytes)) (a .at)) (c .before .before .before .two-bytes .ensures) (c .before .if2 .taken) (c .constant-passes .ensures)
 
--- src/edge.rt:140:9
 clock-passes-requires : tie.Need-clock-passes-requires
 clock-passes-requires c κs = search needs
 
--- src/edge.rt:140:9
 returns-3 : tie.Need-returns-3
 returns-3 c = let a = c .before .before .before .before .before .before .before .before .before .args in
-    c .clock-passes .ensures ∙ rw (c .before .before .before .before .two-bytes .ensures) (clock-in-range _ (fields (now (a .bytes)) (a .at)) (c .before .if3 .taken))
+    clock-in-range _ (fields (now (a .bytes)) (a .at)) (c .before .before .before .before .two-bytes .ensures) (c .before .if3 .taken) (c .clock-passes .ensures)
 
--- src/edge.rt:125:1
 returns-4 : tie.Need-returns-4
 returns-4 c = let a = c .before .before .before .before .before .before .before .before .args in
     no-kind _ (fields (now (a .bytes)) (a .at)) (c .before .before .if1 .left) (c .before .if2 .left) (c .if3 .left)

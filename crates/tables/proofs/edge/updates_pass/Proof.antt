@@ -1,16 +1,13 @@
 use borrow.Author.Tests.{not-true, not-false}
 use Prim.Native.Nat.{ℕ, _+_, _*_, _-_}
 use mathlib.Core.Path.{sym, _∙_}
-use Rattle.tables.specs.TableFile.{guard, guard-in-range, fields, fields-in-range}
+use Rattle.tables.specs.TableFile.{fields, fields-in-range}
 use Rattle.regions.specs.Rows.{from}
 use denote.Ref.{now}
 use Rattle.tables.proofs.Laws.Loops.{Passed, none-tested, all-tested, one-passes, one-fails, every-map}
 use borrow.Author.Needs.{needs}
 use Rattle.tables.proofs.edge.updates_pass.Statement.{statement}
 use Rattle.tables.proofs.edge.updates_pass.Tie as tie
-use Rattle.tables.proofs.edge.updates_pass.Reads as reads
-use Rattle.tables.proofs.edge.updates_pass.Lts as lts
-use Rattle.tables.proofs.edge.update_passes.Reads as update-passes-reads
 
 abbrev Inv-loop : tie.InvT-loop
 Inv-loop bytes first clocks n z₀ z = Passed (λ (z : ℕ). fields-in-range clocks (fields bytes (first + 5 * z))) n z
@@ -18,39 +15,30 @@ Inv-loop bytes first clocks n z₀ z = Passed (λ (z : ℕ). fields-in-range clo
 abbrev μ-loop : tie.MeasureT-loop
 μ-loop bytes first clocks n z₀ z = n - z
 
--- src/edge.rt:152:5
 loop-holds : tie.Need-loop-holds Inv-loop μ-loop
 loop-holds c = none-tested
 
--- src/edge.rt:153:42
 mul-update-passes : tie.Need-mul-update-passes Inv-loop μ-loop
 mul-update-passes c = search needs
 
--- src/edge.rt:153:34
 add-update-passes : tie.Need-add-update-passes Inv-loop μ-loop
 add-update-passes c = search needs
 
--- src/edge.rt:153:13
 update-passes-requires : tie.Need-update-passes-requires Inv-loop μ-loop
 update-passes-requires c κs = search needs
 
--- src/edge.rt:154:13
 returns : tie.Need-returns Inv-loop μ-loop
 returns c = sym (every-map (fields-in-range (c .before .before .before .before .before .args .clocks)) (λ (z : ℕ). fields (now (c .before .before .before .before .before .args .bytes)) (c .before .before .before .before .before .args .first + 5 * z)) (from 0 (c .before .before .before .before .before .args .clocks)) ∙ one-fails (c .before .before .before .loop .inv) (c .before .before .loop-test .taken) (sym (c .before .update-passes .ensures) ∙ not-true _ (c .if1 .taken)))
 
--- src/edge.rt:156:9
 add-z : tie.Need-add-z Inv-loop μ-loop
 add-z c = search needs
 
--- src/edge.rt:152:5
 loop-less : tie.Need-loop-less Inv-loop μ-loop
 loop-less c = search needs
 
--- src/edge.rt:152:5
 loop-again : tie.Need-loop-again Inv-loop μ-loop
 loop-again c = one-passes (c .before .before .before .loop .inv) (c .before .before .loop-test .taken) (sym (c .before .update-passes .ensures) ∙ not-false _ (c .if1 .left))
 
--- src/edge.rt:146:1
 returns-2 : tie.Need-returns-2 Inv-loop μ-loop
 returns-2 c = sym (every-map (fields-in-range (c .before .before .before .args .clocks)) (λ (z : ℕ). fields (now (c .before .before .before .args .bytes)) (c .before .before .before .args .first + 5 * z)) (from 0 (c .before .before .before .args .clocks)) ∙ all-tested (c .before .loop .inv) (c .loop-test .left))
 

@@ -1,13 +1,10 @@
-use mathlib.Core.Path.{_≡_}
 use native.Mathlib.Omega.{arith}
-use Prim.Native.Nat.{_-_, _≤_, _<_}
+use Prim.Native.Nat.{_-_, _≤_}
 use lib.ListN.{length}
 use Rattle.tables.proofs.Laws.Header.{Copying, copied-none, copied-one, copied-all}
 use borrow.Author.Needs.{needs}
 use Rattle.tables.proofs.header.bounds_of.Statement.{statement}
 use Rattle.tables.proofs.header.bounds_of.Tie as tie
-use Rattle.tables.proofs.header.bounds_of.Reads as reads
-use Rattle.tables.proofs.header.bounds_of.Lts as lts
 
 abbrev Inv-loop : tie.InvT-loop
 Inv-loop bytes bounds₀ z₀ bounds z = (z ≤ length bytes) × Copying bytes z bounds
@@ -15,39 +12,30 @@ Inv-loop bytes bounds₀ z₀ bounds z = (z ≤ length bytes) × Copying bytes z
 abbrev μ-loop : tie.MeasureT-loop
 μ-loop bytes bounds₀ z₀ bounds z = length bytes - z
 
--- src/header.rt:60:5
 loop-holds : tie.Need-loop-holds Inv-loop μ-loop
 loop-holds c = (omega arith, copied-none)
 
--- src/header.rt:61:21
 shared-slice-read-bounds : tie.Need-shared-slice-read-bounds Inv-loop μ-loop
 shared-slice-read-bounds c = search needs
 
--- src/header.rt:61:21
 cast-bounds : tie.Need-cast-bounds Inv-loop μ-loop
 cast-bounds c = omega (arith, c .shared-slice-known .given (c .before .before .loop .z))
 
--- src/header.rt:61:9
 mul-bounds : tie.Need-mul-bounds Inv-loop μ-loop
 mul-bounds c = search needs
 
--- src/header.rt:61:9
 array-write-bounds : tie.Need-array-write-bounds Inv-loop μ-loop
 array-write-bounds c = search needs
 
--- src/header.rt:62:9
 add-z : tie.Need-add-z Inv-loop μ-loop
 add-z c = search needs
 
--- src/header.rt:60:5
 loop-less : tie.Need-loop-less Inv-loop μ-loop
 loop-less c = search needs
 
--- src/header.rt:60:5
 loop-again : tie.Need-loop-again Inv-loop μ-loop
 loop-again c = (omega arith, copied-one (c .before .before .loop .inv .1) (c .before .loop-test .taken) (omega arith) (omega (arith, c .shared-slice-known .given (c .before .before .loop .z))))
 
--- src/header.rt:54:1
 returns : tie.Need-returns Inv-loop μ-loop
 returns c = copied-all (c .before .loop .inv .1) (omega arith)
 

@@ -9,8 +9,6 @@ use Rattle.tables.proofs.Laws.Loops.{Passed, none-tested, all-tested, o
 use borrow.Author.Needs.{needs}
 use Rattle.tables.proofs.header.bounds_pass.Statement.{statement}
 use Rattle.tables.proofs.header.bounds_pass.Tie as tie
-use Rattle.tables.proofs.header.bounds_pass.Reads as reads
-use Rattle.tables.proofs.header.bounds_pass.Lts as lts
 
 abbrev Inv-loop : tie.InvT-loop
 Inv-loop bytes z₀ z = Passed (λ (i : ℕ). low (at bytes i)) (length bytes) z
@@ -18,31 +16,24 @@ Inv-loop bytes z₀ z = Passed (λ (i : ℕ). low (at bytes i)) (length bytes) z
 abbrev μ-loop : tie.MeasureT-loop
 μ-loop bytes z₀ z = length bytes - z
 
--- src/header.rt:44:5
 loop-holds : tie.Need-loop-holds Inv-loop μ-loop
 loop-holds c = none-tested
 
--- src/header.rt:45:18
 shared-slice-read-if1 : tie.Need-shared-slice-read-if1 Inv-loop μ-loop
 shared-slice-read-if1 c = search needs
 
--- src/header.rt:46:13
 returns : tie.Need-returns Inv-loop μ-loop
 returns c = sym (every-at low (now (c .before .before .before .before .args .bytes)) 0 ∙ one-fails (c .before .before .before .loop .inv) (c .before .before .loop-test .taken) (lt-leb _ _ (c .if1 .taken)))
 
--- src/header.rt:48:9
 add-z : tie.Need-add-z Inv-loop μ-loop
 add-z c = search needs
 
--- src/header.rt:44:5
 loop-less : tie.Need-loop-less Inv-loop μ-loop
 loop-less c = search needs
 
--- src/header.rt:44:5
 loop-again : tie.Need-loop-again Inv-loop μ-loop
 loop-again c = one-passes (c .before .before .before .loop .inv) (c .before .before .loop-test .taken) (le-leb _ _ (c .if1 .left))
 
--- src/header.rt:40:1
 returns-2 : tie.Need-returns-2 Inv-loop μ-loop
 returns-2 c = sym (every-at low (now (c .before .before .args .bytes)) 0 ∙ all-tested (c .before .loop .inv) (c .loop-test .left))
 

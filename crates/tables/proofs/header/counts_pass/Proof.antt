@@ -1,6 +1,6 @@
 use mathlib.Core.Bool.{true, false}
 use Rattle.tables.specs.Reading.{between}
-use mathlib.Core.Path.{_≡_, sym, ap, _∙_}
+use mathlib.Core.Path.{_≡_, sym, _∙_}
 use Rattle.tables.specs.Header.{counts-in-range}
 use Rattle.regions.specs.Clocks.{at}
 use denote.Ref.{now}
@@ -8,35 +8,25 @@ use borrow.Author.Tests.{not-true, not-false, lt-ltb, le-ltb}
 use borrow.Author.Needs.{needs}
 use Rattle.tables.proofs.header.counts_pass.Statement.{statement}
 use Rattle.tables.proofs.header.counts_pass.Tie as tie
-use Rattle.tables.proofs.header.counts_pass.Reads as reads
-use Rattle.tables.proofs.header.counts_pass.Lts as lts
-use Rattle.tables.proofs.header.within.Reads as within-reads
-use Rattle.tables.proofs.record.two_bytes.Reads as two-bytes-reads
 
--- src/header.rt:27:22
 shared-slice-read-within : tie.Need-shared-slice-read-within
 shared-slice-read-within c = search needs
 
--- src/header.rt:27:9
 within-requires : tie.Need-within-requires
 within-requires c κs = search needs
 
--- src/header.rt:28:9
 returns : tie.Need-returns
 unfolding counts-in-range
 returns c = let b = now (c .before .before .before .before .args .bytes) in
     let e : between 1 4 (at b 2) ≡ false = sym (c .before .within .ensures) ∙ not-true _ (c .if1 .taken) in
     rw e
 
--- src/header.rt:30:23
 shared-slice-read-within-2 : tie.Need-shared-slice-read-within-2
 shared-slice-read-within-2 c = search needs
 
--- src/header.rt:30:9
 within-requires-2 : tie.Need-within-requires-2
 within-requires-2 c κs = search needs
 
--- src/header.rt:31:9
 returns-2 : tie.Need-returns-2
 unfolding counts-in-range
 returns-2 c = let b = now (c .before .before .before .before .before .before .before .args .bytes) in
@@ -44,15 +34,12 @@ returns-2 c = let b = now (c .before .before .before .before .before .before .be
     let f : between 1 64 (at b 3) ≡ false = sym (c .before .within2 .ensures) ∙ not-true _ (c .if2 .taken) in
     rw (e, f)
 
--- src/header.rt:33:8
 shared-slice-read-if3 : tie.Need-shared-slice-read-if3
 shared-slice-read-if3 c = search needs
 
--- src/header.rt:33:20
 shared-slice-read-if3-2 : tie.Need-shared-slice-read-if3-2
 shared-slice-read-if3-2 c = search needs
 
--- src/header.rt:34:9
 returns-3 : tie.Need-returns-3
 unfolding counts-in-range
 returns-3 c = let b = now (c .before .before .before .before .before .before .before .before .before .before .args .bytes) in
@@ -60,11 +47,9 @@ returns-3 c = let b = now (c .before .before .before .before .before .before .be
     let f : between 1 64 (at b 3) ≡ true = sym (c .before .before .before .before .within2 .ensures) ∙ not-false _ (c .before .before .before .if2 .left) in
     rw (e, f, le-ltb (at b 4) (at b 3) (c .if3 .taken))
 
--- src/header.rt:36:5
 two-bytes-requires : tie.Need-two-bytes-requires
 two-bytes-requires c κs = search needs
 
--- src/header.rt:23:1
 returns-4 : tie.Need-returns-4
 unfolding counts-in-range
 returns-4 c = let b = now (c .before .before .before .before .before .before .before .before .before .before .before .args .bytes) in

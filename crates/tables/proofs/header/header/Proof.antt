@@ -5,81 +5,55 @@ use Rattle.tables.proofs.Laws.Header.{header-lacks, header-counts, boun
 use borrow.Author.Needs.{needs}
 use Rattle.tables.proofs.header.header.Statement.{statement}
 use Rattle.tables.proofs.header.header.Tie as tie
-use Rattle.tables.proofs.header.header.Reads as reads
-use Rattle.tables.proofs.header.header.Lts as lts
-use Rattle.tables.proofs.admission.fine.Reads as fine-reads
-use Rattle.tables.proofs.admission.refusal.Reads as refusal-reads
-use Rattle.tables.proofs.header.bounds_pass.Reads as bounds-pass-reads
-use Rattle.tables.proofs.header.counts_pass.Reads as counts-pass-reads
-use Rattle.tables.proofs.header.head_of.Reads as head-of-reads
-use Rattle.tables.proofs.record.part.Reads as part-reads
-use Rattle.tables.proofs.record.record.Reads as record-reads
 
--- src/header.rt:92:9
 record-requires : tie.Need-record-requires
 record-requires c κs = search needs
 
--- src/header.rt:94:9
 refusal-requires : tie.Need-refusal-requires
 refusal-requires c κs = search needs
 
--- src/header.rt:94:9
 returns : tie.Need-returns
 returns c = header-lacks _ _ (c .before .before .«record» .ensures) _ (c .before .if1 .taken) (c .refusal .ensures)
 
--- src/header.rt:96:9
 counts-pass-requires : tie.Need-counts-pass-requires
 counts-pass-requires c κs = search needs
 
--- src/header.rt:97:9
 refusal-requires-2 : tie.Need-refusal-requires-2
 refusal-requires-2 c κs = search needs
 
--- src/header.rt:97:9
 returns-2 : tie.Need-returns-2
 returns-2 c = header-counts _ _ (c .before .before .before .before .«record» .ensures) _ (c .before .before .before .if1 .left) (sym (c .before .before .counts-pass .ensures) ∙ not-true _ (c .before .if2 .taken)) (c .refusal2 .ensures)
 
--- src/header.rt:99:13
 shared-slice-read-n : tie.Need-shared-slice-read-n
 shared-slice-read-n c = search needs
 
--- src/header.rt:99:13
 cast-n : tie.Need-cast-n
 cast-n c = omega (arith, c .shared-slice-known2 .given 2)
 
--- src/header.rt:100:9
 part-requires : tie.Need-part-requires
 part-requires c κs = search needs
 
--- src/header.rt:102:9
 refusal-requires-3 : tie.Need-refusal-requires-3
 refusal-requires-3 c κs = search needs
 
--- src/header.rt:102:9
 returns-3 : tie.Need-returns-3
 returns-3 c = bounds-lack _ _ (c .before .before .before .before .before .before .before .«record» .ensures) _ (c .before .before .before .before .before .before .if1 .left) (sym (c .before .before .before .before .before .counts-pass .ensures) ∙ not-false _ (c .before .before .before .before .if2 .left)) _ (c .before .before .part .ensures) (c .before .if3 .taken) (c .refusal3 .ensures)
 
--- src/header.rt:104:9
 bounds-pass-requires : tie.Need-bounds-pass-requires
 bounds-pass-requires c κs = search needs
 
--- src/header.rt:105:9
 refusal-requires-4 : tie.Need-refusal-requires-4
 refusal-requires-4 c κs = search needs
 
--- src/header.rt:105:9
 returns-4 : tie.Need-returns-4
 returns-4 c = bounds-high _ _ (c .before .before .before .before .before .before .before .before .before .«record» .ensures) _ (c .before .before .before .before .before .before .before .before .if1 .left) (sym (c .before .before .before .before .before .before .before .counts-pass .ensures) ∙ not-false _ (c .before .before .before .before .before .before .if2 .left)) _ (c .before .before .before .before .part .ensures) (c .before .before .before .if3 .left) (sym (c .before .before .bounds-pass .ensures) ∙ not-true _ (c .before .if4 .taken)) (c .refusal4 .ensures)
 
--- src/header.rt:107:10
 head-of-requires : tie.Need-head-of-requires
 head-of-requires c κs = header-due _ _ (c .before .before .before .before .before .before .before .before .«record» .ensures) (c .before .before .before .before .before .before .before .if1 .left) (sym (c .before .before .before .before .before .before .counts-pass .ensures) ∙ not-false _ (c .before .before .before .before .before .if2 .left)) _ (c .before .before .before .part .ensures) (c .before .before .if3 .left)
 
--- src/header.rt:107:5
 fine-requires : tie.Need-fine-requires
 fine-requires c κs = search needs
 
--- src/header.rt:89:1
 returns-5 : tie.Need-returns-5
 returns-5 c = header-read _ _ (c .before .before .before .before .before .before .before .before .before .before .«record» .ensures) _ (c .before .before .before .before .before .before .before .before .before .if1 .left) (sym (c .before .before .before .before .before .before .before .before .counts-pass .ensures) ∙ not-false _ (c .before .before .before .before .before .before .before .if2 .left)) _ (c .before .before .before .before .before .part .ensures) (c .before .before .before .before .if3 .left) (sym (c .before .before .before .bounds-pass .ensures) ∙ not-false _ (c .before .before .if4 .left)) (c .fine .ensures .0) (c .fine .ensures .1) (c .before .head-of .ensures)
 

@@ -1,14 +1,10 @@
 use borrow.Author.Tests.{le-leb, lt-leb}
 use Rattle.tables.proofs.header.within.Statement.{statement}
 use Rattle.tables.proofs.header.within.Tie as tie
-use Rattle.tables.proofs.header.within.Reads as reads
-use Rattle.tables.proofs.header.within.Lts as lts
 
--- src/header.rt:16:1
 returns : tie.Need-returns
 returns c = rw (le-leb _ _ (c .if1 .taken))
 
--- src/header.rt:16:1
 returns-2 : tie.Need-returns-2
 returns-2 c = rw (lt-leb _ _ (c .if1 .left))
 

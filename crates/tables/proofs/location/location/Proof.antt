@@ -1,4 +1,3 @@
-use denote.Ref.{now}
 use native.Mathlib.Omega.{arith}
 use Rattle.tables.specs.Bytes.{LO}
 use Rattle.tables.proofs.Laws.Parts.{record-found}
@@ -6,45 +5,31 @@ use Rattle.tables.proofs.Laws.Locations.{location-lacks, location-flags
 use borrow.Author.Needs.{needs}
 use Rattle.tables.proofs.location.location.Statement.{statement}
 use Rattle.tables.proofs.location.location.Tie as tie
-use Rattle.tables.proofs.location.location.Reads as reads
-use Rattle.tables.proofs.location.location.Lts as lts
-use Rattle.tables.proofs.record.record.Reads as record-reads
-use Rattle.tables.proofs.scan.reached.Reads as reached-reads
-use Rattle.tables.proofs.scan.refused.Reads as refused-reads
 
--- src/location.rt:15:9
 record-requires : tie.Need-record-requires
 record-requires c κs = search needs
 
--- src/location.rt:17:9
 refused-requires : tie.Need-refused-requires
 refused-requires c κs = search needs
 
--- src/location.rt:17:9
 returns : tie.Need-returns
 returns c = location-lacks _ _ _ _ (c .before .before .«record» .ensures) _ (c .before .if1 .taken) (c .refused .ensures)
 
--- src/location.rt:19:12
 shared-slice-read-if2 : tie.Need-shared-slice-read-if2
 shared-slice-read-if2 c = search needs
 
--- src/location.rt:20:9
 refused-requires-2 : tie.Need-refused-requires-2
 refused-requires-2 c κs = search needs
 
--- src/location.rt:20:9
 returns-2 : tie.Need-returns-2
 returns-2 c = location-flags _ _ _ _ (c .before .before .before .before .«record» .ensures) _ (c .before .before .before .if1 .left) (c .before .if2 .taken) (c .refused2 .ensures)
 
--- src/location.rt:22:13
 add-reached : tie.Need-add-reached
 add-reached c = omega (arith, record-found _ _ 3 1 0 LO _ (c .before .before .before .«record» .ensures) (omega arith) (c .before .before .if1 .left) .fits)
 
--- src/location.rt:22:5
 reached-requires : tie.Need-reached-requires
 reached-requires c κs = search needs
 
--- src/location.rt:12:1
 returns-3 : tie.Need-returns-3
 returns-3 c = location-read _ _ _ _ (c .before .before .before .before .«record» .ensures) _ (c .before .before .before .if1 .left) (c .before .if2 .left) (c .reached .ensures)
 

@@ -7,10 +7,6 @@ use Rattle.tables.proofs.Laws.Scan.{Left, all-left, none-left, one-refu
 use borrow.Author.Needs.{needs}
 use Rattle.tables.proofs.location.locations.Statement.{statement}
 use Rattle.tables.proofs.location.locations.Tie as tie
-use Rattle.tables.proofs.location.locations.Reads as reads
-use Rattle.tables.proofs.location.locations.Lts as lts
-use Rattle.tables.proofs.location.location.Reads as location-reads
-use Rattle.tables.proofs.scan.reached.Reads as reached-reads
 
 abbrev Inv-loop : tie.InvT-loop
 Inv-loop file at count stop here₀ place₀ here place = Left location file (records location 1 count (drop at file)) stop here place
@@ -18,39 +14,30 @@ Inv-loop file at count stop here₀ place₀ here place = Left location file (re
 abbrev μ-loop : tie.MeasureT-loop
 μ-loop file at count stop here₀ place₀ here place = stop - place
 
--- src/location.rt:32:16
 add-stop : tie.Need-add-stop Inv-loop μ-loop
 add-stop c = search needs
 
--- src/location.rt:35:5
 loop-holds : tie.Need-loop-holds Inv-loop μ-loop
 loop-holds c = all-left location _ _ _ _ _ (omega arith) (omega arith)
 
--- src/location.rt:36:13
 location-requires : tie.Need-location-requires Inv-loop μ-loop
 location-requires c κs = search needs
 
--- src/location.rt:38:13
 returns : tie.Need-returns Inv-loop μ-loop
 returns c = one-refused location _ _ _ _ _ (c .before .before .before .before .loop .inv) _ (c .before .before .location .ensures) (c .before .before .before .loop-test .taken) (c .if1 .taken)
 
--- src/location.rt:41:9
 add-place : tie.Need-add-place Inv-loop μ-loop
 add-place c = search needs
 
--- src/location.rt:35:5
 loop-less : tie.Need-loop-less Inv-loop μ-loop
 loop-less c = search needs
 
--- src/location.rt:35:5
 loop-again : tie.Need-loop-again Inv-loop μ-loop
 loop-again c = one-read location _ _ _ _ _ (c .before .before .before .before .loop .inv) _ (c .before .before .location .ensures) (c .before .before .before .loop-test .taken) (c .if1 .left)
 
--- src/location.rt:43:5
 reached-requires : tie.Need-reached-requires Inv-loop μ-loop
 reached-requires c κs = search needs
 
--- src/location.rt:28:1
 returns-2 : tie.Need-returns-2 Inv-loop μ-loop
 returns-2 c = none-left location _ _ _ _ _ (c .before .before .loop .inv) (c .before .loop-test .left) _ (c .reached .ensures)
 
