@@ -11,6 +11,8 @@ pub mod RowRecords
 pub mod Listed
 pub mod ListRecords
 pub mod ListOrder
+pub mod SameNext
+pub mod Agreeing
 pub mod NextRows
 pub mod Lacking
 pub mod RegionLists

@@ -4,6 +4,7 @@ pub mod RegionFile
 pub mod Row
 pub mod Listed
 pub mod RegionList
+pub mod Leading
 pub mod Follow
 pub mod Following
 pub mod Program

@@ -6,7 +6,9 @@ pub mod run; // the run list
 pub mod listed; // the rows of a region list
 pub mod list_records; // reading a region list
 pub mod list_order; // its order and its locations
-pub mod next_rows; // what follows each of its rows
+pub mod waiting; // whether it has what follows its rows in time
+pub mod reading; // what an edge reads of a region
+pub mod leading; // whether it has what the edges lead to
 pub mod region_list; // the check of a region list
 pub mod follow; // following one region
 pub mod verdict; // what is said of a table and a paper

@@ -9,21 +9,22 @@ use mathlib.Core.Logic.{_↔_}
 use mathlib.Core.Option.{Option, none, some}
 use mathlib.Core.List.{List, [], _∷_, List·Memᴰ·head}
 use lib.ListN.{length, getD}
+use lib.Dec.{eqb}
 use borrow.Author.Tests.{ne-eqb}
 use Rattle.regions.specs.Row.{Row, IsRow, Below}
 use Rattle.regions.specs.Wait.{wait}
 use Rattle.regions.specs.Edge.{Edge, Bounded}
 use Rattle.regions.specs.Automaton.{Table, blank, edge}
 use Rattle.regions.specs.Closed.{Mem}
-use Rattle.regions.specs.Rows.{rows-at, gather}
-use Rattle.regions.specs.Successors.{leadsb, held, wait-rows, edge-rows}
+use Rattle.regions.specs.Rows.{isrowb, rows-at, gather}
+use Rattle.regions.specs.Successors.{guardsb, placedb, leadsb, held, wait-rows, edge-rows}
 use Rattle.regions.specs.Checks.{every, has}
 use Rattle.regions.specs.Walk.{first-above}
 use Rattle.regions.specs.Values.{bounds-of, row-of, region-of, sought, found-of, edge-of}
 use Rattle.regions.specs.declared.edge.Edge as edge-code
 use Rattle.regions.specs.declared.region.Region.{Region}
 use Rattle.regions.specs.declared.region.Sought.{Sought}
-use Rattle.regions.proofs.Laws.Tests.{never, fails, refutes}
+use Rattle.regions.proofs.Laws.Tests.{never, and-law, fails, refutes}
 use Rattle.regions.proofs.Laws.Members.{gather-in, gather-out, getD-in, in-getD, select-out, Sorted}
 use Rattle.regions.proofs.Laws.Waiting.{wait-row}
 use Rattle.regions.proofs.Laws.Rows.{rows-at-out}
@@ -32,9 +33,12 @@ use Rattle.regions.proofs.Laws.Checks.{has-law, every-law}
 use Rattle.tables.specs.Admission.{table-of}
 use Rattle.tables.specs.Values.{Describes}
 use Rattle.tables.specs.declared.admission.Head.{Head}
+use Rattle.tables.proofs.Laws.Reading.{itself}
 use Rattle.tables.proofs.Laws.Admission.{admission-admitted}
 use Rattle.checker.specs.Listed.{listed-row, listed-rows}
 use Rattle.checker.specs.RegionList.{by-edges, NextListed}
+use Rattle.checker.specs.Leading.{reads-same, Kept}
+use Rattle.checker.proofs.Laws.SameNext.{same-rows}
 use Rattle.checker.proofs.Laws.RowRecords.{row-back}
 use Rattle.checker.proofs.Laws.Ordered.{ascends-sorted}
 use Rattle.checker.proofs.Laws.Walks.{beyond, beyond-none, beyond-end, beyond-next, next-in, select-none}
@@ -94,6 +98,26 @@ pub edge-elsewhere : (c : List ℕ) (e : Edge) (r : Row) (p : Row → Bool) → 
 unfolding edge-rows leadsb
 edge-elsewhere c e r p h =
     ap (every p) (sym (select-none (leadsb c e r) (rows-at c (e .target)) (λ x. rw (ne-eqb (r .location) (e .source) h))))
+
+-- where a guard fails it leads nowhere
+pub edge-blocked : (c : List ℕ) (e : Edge) (r : Row) (p : Row → Bool) → guardsb r (e .guards) ≡ false → true ≡ every p (edge-rows c e r)
+unfolding edge-rows leadsb
+edge-blocked c e r p h =
+    ap (every p) (sym (select-none (leadsb c e r) (rows-at c (e .target)) (λ x. rw h (go (eqb (r .location) (e .source)) (eqb (x .location) (e .target)) (isrowb c x) (placedb c e r x)))))
+  where
+    go : (a b k l : Bool) → (a && b && false && k && l) ≡ false
+    go true true k l = refl
+    go true false k l = refl
+    go false b k l = refl
+
+-- from a row that agrees in what the edge reads with the one that it was walked from last, it leads into the list as from that one
+pub kept-same : (c : List ℕ) (n : ℕ) → length c ≡ n → (rows : List Row) (e : Edge) (walked : Sought) (r : Row) → Kept c n rows e walked
+    → (walked .found && reads-same n e (row-of n (walked .region)) r) ≡ true → r .location ≡ e .source → guardsb r (e .guards) ≡ true
+    → true ≡ every (has rows) (edge-rows c e r)
+kept-same c n sized rows e walked r kept same l g =
+    let (f, s) = and-law (walked .found) (reads-same n e (row-of n (walked .region)) r) (itself (walked .found)) (itself (reads-same n e (row-of n (walked .region)) r)) .0 same in
+    let k = kept f in
+    sym (k .inside) ∙ ap (every (has rows)) (same-rows c e (row-of n (walked .region)) r (rw sized s) (k .leaves ∙ sym l) (k .guarded ∙ sym g))
 
 -- the rows up to the floor pass: whether all do is whether those beyond it do
 pub record Walked (n : ℕ) (p : Row → Bool) (rows : List Row) (floor : Sought) : Type 0 where

@@ -9,8 +9,8 @@ use Rattle.checker.proofs.region_list.check_rows.Lts as lts
 use Rattle.checker.proofs.list_order.first_final.Reads as first-final-reads
 use Rattle.checker.proofs.list_order.first_unordered.Reads as first-unordered-reads
 use Rattle.checker.proofs.listed.is_listed.Reads as is-listed-reads
-use Rattle.checker.proofs.next_rows.lacks_by_edges.Reads as lacks-by-edges-reads
-use Rattle.checker.proofs.next_rows.lacks_wait.Reads as lacks-wait-reads
+use Rattle.checker.proofs.leading.lacks_by_edges.Reads as lacks-by-edges-reads
+use Rattle.checker.proofs.waiting.lacks_wait.Reads as lacks-wait-reads
 use Rattle.checker.proofs.row.initial_row.Reads as initial-row-reads
 
 -- src/region_list.rt:37:9

@@ -11,12 +11,12 @@ use Rattle.checker.specs.Listed.{listed-rows}
 use Rattle.checker.proofs.Laws.Listed.{row-room, listed-again}
 use Rattle.checker.proofs.Laws.NextRows.{NextTo, next-begins, next-on, next-fails, next-all}
 use borrow.Author.Needs.{needs}
-use Rattle.checker.proofs.next_rows.lacks_wait.Statement.{statement}
-use Rattle.checker.proofs.next_rows.lacks_wait.Tie as tie
-use Rattle.checker.proofs.next_rows.lacks_wait.Reads as reads
-use Rattle.checker.proofs.next_rows.lacks_wait.Lts as lts
+use Rattle.checker.proofs.waiting.lacks_wait.Statement.{statement}
+use Rattle.checker.proofs.waiting.lacks_wait.Tie as tie
+use Rattle.checker.proofs.waiting.lacks_wait.Reads as reads
+use Rattle.checker.proofs.waiting.lacks_wait.Lts as lts
 use Rattle.checker.proofs.listed.row_at.Reads as row-at-reads
-use Rattle.checker.proofs.next_rows.waits_inside.Reads as waits-inside-reads
+use Rattle.checker.proofs.waiting.waits_inside.Reads as waits-inside-reads
 
 abbrev Inv-loop : tie.InvT-loop
 Inv-loop list clocks count n i₀ i = NextTo (wait-rows (bounds-of clocks)) (clocks .count) list count i

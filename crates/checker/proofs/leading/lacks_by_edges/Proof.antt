@@ -5,11 +5,11 @@ use Rattle.tables.specs.Admission.{table-of}
 use Rattle.checker.specs.Listed.{listed-rows}
 use Rattle.checker.proofs.Laws.NextRows.{EdgesTo, edges-begin, edges-on, edges-fail, edges-all, edge-there, edge-bounded, edge-rule}
 use borrow.Author.Needs.{needs}
-use Rattle.checker.proofs.next_rows.lacks_by_edges.Statement.{statement}
-use Rattle.checker.proofs.next_rows.lacks_by_edges.Tie as tie
-use Rattle.checker.proofs.next_rows.lacks_by_edges.Reads as reads
-use Rattle.checker.proofs.next_rows.lacks_by_edges.Lts as lts
-use Rattle.checker.proofs.next_rows.lacks_by_edge.Reads as lacks-by-edge-reads
+use Rattle.checker.proofs.leading.lacks_by_edges.Statement.{statement}
+use Rattle.checker.proofs.leading.lacks_by_edges.Tie as tie
+use Rattle.checker.proofs.leading.lacks_by_edges.Reads as reads
+use Rattle.checker.proofs.leading.lacks_by_edges.Lts as lts
+use Rattle.checker.proofs.leading.lacks_by_edge.Reads as lacks-by-edge-reads
 use Rattle.tables.proofs.admission.edge_at.Reads as edge-at-reads
 
 abbrev Inv-loop : tie.InvT-loop

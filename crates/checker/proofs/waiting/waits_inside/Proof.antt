@@ -3,10 +3,10 @@ use Rattle.regions.specs.Checks.{has}
 use Rattle.checker.specs.Listed.{listed-rows}
 use Rattle.checker.proofs.Laws.NextRows.{wait-found, wait-missing}
 use borrow.Author.Needs.{needs}
-use Rattle.checker.proofs.next_rows.waits_inside.Statement.{statement}
-use Rattle.checker.proofs.next_rows.waits_inside.Tie as tie
-use Rattle.checker.proofs.next_rows.waits_inside.Reads as reads
-use Rattle.checker.proofs.next_rows.waits_inside.Lts as lts
+use Rattle.checker.proofs.waiting.waits_inside.Statement.{statement}
+use Rattle.checker.proofs.waiting.waits_inside.Tie as tie
+use Rattle.checker.proofs.waiting.waits_inside.Reads as reads
+use Rattle.checker.proofs.waiting.waits_inside.Lts as lts
 use Rattle.checker.proofs.listed.is_listed.Reads as is-listed-reads
 use Rattle.regions.proofs.region.Region.wait.Reads as wait-reads
 

@@ -1,0 +1,46 @@
+// Whether a region list has the row after each of its rows in time: refusal 17.
+ghost use mathlib.Core.Path.{_≡_};
+ghost use Rattle.regions.specs.Row.{IsRow};
+ghost use Rattle.regions.specs.Closed.{Ascends};
+ghost use Rattle.regions.specs.Successors.{wait-rows};
+ghost use Rattle.regions.specs.Checks.{every, has};
+ghost use Rattle.regions.specs.Values.{bounds-of, row-of};
+ghost use Rattle.checker.specs.Listed.{listed-rows, Listed};
+ghost use Rattle.checker.specs.RegionList.{NextListed};
+use crate::listed::is_listed;
+use crate::listed::row_at;
+use regions::region::Clocks;
+use regions::region::Region;
+
+// Whether the region after this one in time is in the list, or there is none.
+fn waits_inside(list: &[u8], clocks: Clocks, count: usize, from: Region) -> bool
+    requires { ⌜ Listed clocks (now list) count ⌝ }
+    requires { ⌜ Ascends (listed-rows (clocks .count) (now list) count) ⌝ }
+    requires { ⌜ IsRow (bounds-of clocks) (row-of (clocks .count) from) ⌝ }
+    ensures { λ r. ⌜ r ≡ every (has (listed-rows (clocks .count) (now (list .entry)) count)) (wait-rows (bounds-of clocks) (row-of (clocks .count) from)) ⌝ }
+{
+    let next = from.wait(clocks);
+    if next.found {
+        let region = next.region;
+        return is_listed(list, clocks, count, region);
+    }
+    true
+}
+
+// The place of a row that lacks its next row by waiting, or 0.
+pub fn lacks_wait(list: &[u8], clocks: Clocks, count: usize) -> u16
+    requires { ⌜ Listed clocks (now list) count ⌝ }
+    requires { ⌜ Ascends (listed-rows (clocks .count) (now list) count) ⌝ }
+    ensures { λ r. ⌜ NextListed (wait-rows (bounds-of clocks)) (listed-rows (clocks .count) (now (list .entry)) count) r ⌝ }
+{
+    let n = clocks.count as usize;
+    let mut i = 0;
+    while i < count {
+        let row = row_at(list, n, i);
+        if !waits_inside(list, clocks, count, row) {
+            return (i + 1) as u16;
+        }
+        i += 1;
+    }
+    0
+}
