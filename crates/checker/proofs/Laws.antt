@@ -4,16 +4,18 @@ pub mod Filling
 pub mod RecordReads
 -- the order of rows
 pub mod Ordered
-pub mod Walks
 -- region lists
 pub mod Rows
 pub mod RowRecords
 pub mod Listed
+pub mod ListedNumbers
 pub mod ListRecords
 pub mod ListOrder
 pub mod SameNext
 pub mod Agreeing
 pub mod NextRows
+pub mod Stretch
+pub mod Kept
 pub mod Lacking
 pub mod RegionLists
 pub mod RegionCheck

@@ -1,5 +1,5 @@
 -- What an edge reads of a row, and the row that it was walked from last, for the check of region lists. Assumes nothing.
-use Prim.Native.Nat.{ℕ}
+use Prim.Native.Nat.{ℕ, _≤_, _<_}
 use mathlib.Core.Path.{_≡_}
 use mathlib.Core.Bool.{Bool, true, _&&_}
 use mathlib.Core.List.{List}
@@ -12,6 +12,7 @@ use Rattle.regions.specs.Successors.{guardsb, edge-rows}
 use Rattle.regions.specs.Checks.{every, has}
 use Rattle.regions.specs.Values.{row-of}
 use Rattle.regions.specs.declared.region.Sought.{Sought}
+use Rattle.checker.specs.Listed.{listed-row}
 
 -- two rows have a clock's interval and rank in common
 unfoldable pub agreeb : Row → Row → ℕ → Bool
@@ -36,3 +37,9 @@ pub record Inside (c : List ℕ) (rows : List Row) (e : Edge) (r : Row) : Type 0
 -- the same of the region that the edge was walked from last, if there is one
 abbrev pub Kept : List ℕ → ℕ → List Row → Edge → Sought → Type 0
 Kept c n rows e s = s .found ≡ true → Inside c rows e (row-of n (s .region))
+
+-- the first m of so many rows are in locations below l, and no other is
+pub record Starts (n : ℕ) (list : List ℕ) (count l m : ℕ) : Type 0 where
+  pub within : m ≤ count
+  pub before : (i : ℕ) → i < m → listed-row n list i .location < l
+  pub others : (i : ℕ) → m ≤ i → i < count → l ≤ listed-row n list i .location

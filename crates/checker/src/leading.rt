@@ -5,102 +5,120 @@ ghost use Prim.Native.Nat.{_≤_, _<_};
 ghost use Rattle.regions.specs.Row.{IsRow};
 ghost use Rattle.regions.specs.Edge.{Bounded};
 ghost use Rattle.regions.specs.Closed.{Ascends};
-ghost use Rattle.regions.specs.Successors.{edge-rows};
+ghost use Rattle.regions.specs.Successors.{guardsb, edge-rows};
+ghost use Rattle.regions.specs.Image.{deterministic};
 ghost use Rattle.regions.specs.Checks.{every, has};
 ghost use Rattle.regions.specs.Values.{bounds-of, row-of, edge-of};
 ghost use Rattle.tables.specs.Admission.{table-of};
 ghost use Rattle.tables.specs.Values.{Describes};
 ghost use Rattle.checker.specs.Listed.{listed-rows, Listed};
 ghost use Rattle.checker.specs.RegionList.{by-edges, NextListed};
-ghost use Rattle.checker.specs.Leading.{Kept};
-use crate::listed::is_listed;
+ghost use Rattle.checker.specs.Leading.{Kept, Starts};
+use crate::inside::leads_inside;
+use crate::listed::Found;
+use crate::listed::find;
 use crate::listed::row_at;
+use crate::listed::rows_below;
 use crate::reading::reads_same;
+use crate::reading::slot;
 use regions::edge::Edge;
+use regions::image::is_deterministic;
 use regions::region::Clocks;
 use regions::region::Region;
 use regions::region::Sought;
-use regions::walk::next_region;
+use regions::region::missing;
 use tables::admission::Head;
 use tables::admission::edge_at;
 
-// Whether the edge leads from a region into the list, and the region that it was walked from last.
+// Whether the edge leads from a region into the list, where it was looked up last, and the region that the edge was walked from.
 struct Turn {
     inside: bool,
+    at: usize,
     walked: Sought,
 }
 
-// Whether every region that an edge leads to from this one is in the list. The walk hands them out ascending, each from the one before it.
-fn leads_inside(list: &[u8], clocks: Clocks, count: usize, e: Edge, from: Region) -> bool
+// Whether every region that an edge leads to from one in its source location, where its guards hold, is in the list. A deterministic edge leads to
+// one at most, which needs no walk.
+fn leads_into(
+    list: &[u8],
+    clocks: Clocks,
+    count: usize,
+    e: Edge,
+    sole: bool,
+    from: Region,
+    hint: usize,
+) -> Found
     requires { ⌜ Listed clocks (now list) count ⌝ }
     requires { ⌜ Ascends (listed-rows (clocks .count) (now list) count) ⌝ }
-    requires { ⌜ e .«guard_count» ≤ 8 ⌝ }
     requires { ⌜ Bounded (bounds-of clocks) (edge-of (clocks .count) e) ⌝ }
+    requires { ⌜ sole ≡ deterministic (clocks .count) (edge-of (clocks .count) e) ⌝ }
     requires { ⌜ IsRow (bounds-of clocks) (row-of (clocks .count) from) ⌝ }
-    ensures { λ r. ⌜ r ≡ every (has (listed-rows (clocks .count) (now (list .entry)) count)) (edge-rows (bounds-of clocks) (edge-of (clocks .count) e) (row-of (clocks .count) from)) ⌝ }
+    requires { ⌜ from .location ≡ e .source ⌝ }
+    requires { ⌜ guardsb (row-of (clocks .count) from) (edge-of (clocks .count) e .guards) ≡ true ⌝ }
+    ensures { λ r. ⌜ r .listed ≡ every (has (listed-rows (clocks .count) (now (list .entry)) count)) (edge-rows (bounds-of clocks) (edge-of (clocks .count) e) (row-of (clocks .count) from)) ⌝ }
 {
-    let mut floor = Sought {
-        found: false,
-        region: from,
-    };
-    loop {
-        let next = next_region(clocks, from, e, floor);
-        if !next.found {
-            return true;
-        }
-        let region = next.region;
-        if !is_listed(list, clocks, count, region) {
-            return false;
-        }
-        floor = next;
+    if !sole {
+        return leads_inside(list, clocks, count, e, from, hint);
     }
+    let next = from.image(clocks, e);
+    if !next.found {
+        return Found {
+            listed: true,
+            at: hint,
+        };
+    }
+    let region = next.region;
+    find(list, clocks, count, region, hint)
 }
 
-// The same, for the next of many regions: the edge is not walked from another location, where a guard fails, or from a region that has the
-// numbers that it reads in common with the one that it was walked from last.
+// The same where the guards may fail. The edge is not followed from a region that has the numbers that it reads in common with one that it was
+// followed from before.
 fn leads_on(
     list: &[u8],
     clocks: Clocks,
     count: usize,
     e: Edge,
+    sole: bool,
     walked: Sought,
     from: Region,
+    hint: usize,
 ) -> Turn
     requires { ⌜ Listed clocks (now list) count ⌝ }
     requires { ⌜ Ascends (listed-rows (clocks .count) (now list) count) ⌝ }
     requires { ⌜ e .«guard_count» ≤ 8 ⌝ }
     requires { ⌜ Bounded (bounds-of clocks) (edge-of (clocks .count) e) ⌝ }
+    requires { ⌜ sole ≡ deterministic (clocks .count) (edge-of (clocks .count) e) ⌝ }
     requires { ⌜ Kept (bounds-of clocks) (clocks .count) (listed-rows (clocks .count) (now list) count) (edge-of (clocks .count) e) walked ⌝ }
     requires { ⌜ IsRow (bounds-of clocks) (row-of (clocks .count) from) ⌝ }
+    requires { ⌜ from .location ≡ e .source ⌝ }
     ensures answer { λ r. ⌜ r .inside ≡ every (has (listed-rows (clocks .count) (now (list .entry)) count)) (edge-rows (bounds-of clocks) (edge-of (clocks .count) e) (row-of (clocks .count) from)) ⌝ }
     ensures kept { λ r. ⌜ Kept (bounds-of clocks) (clocks .count) (listed-rows (clocks .count) (now (list .entry)) count) (edge-of (clocks .count) e) (r .walked) ⌝ }
 {
-    if from.location != e.source {
-        return Turn {
-            inside: true,
-            walked: walked,
-        };
-    }
     if !from.guards_hold(clocks, e) {
         return Turn {
             inside: true,
+            at: hint,
             walked: walked,
         };
     }
     if reads_same(clocks, e, walked, from) {
         return Turn {
             inside: true,
+            at: hint,
             walked: walked,
         };
     }
-    if !leads_inside(list, clocks, count, e, from) {
+    let found = leads_into(list, clocks, count, e, sole, from, hint);
+    if !found.listed {
         return Turn {
             inside: false,
+            at: hint,
             walked: walked,
         };
     }
     Turn {
         inside: true,
+        at: found.at,
         walked: Sought {
             found: true,
             region: from,
@@ -108,7 +126,22 @@ fn leads_on(
     }
 }
 
-// The place of a row that lacks a next row by this edge, or 0.
+// How many rows are in the locations before this one.
+fn rows_before(list: &[u8], clocks: Clocks, count: usize, location: u8) -> usize
+    requires { ⌜ Listed clocks (now list) count ⌝ }
+    requires { ⌜ Ascends (listed-rows (clocks .count) (now list) count) ⌝ }
+    ensures { λ r. ⌜ Starts (clocks .count) (now (list .entry)) count location r ⌝ }
+{
+    let least = Region {
+        location: location,
+        intervals: [0; 4],
+        ranks: [0; 4],
+    };
+    rows_below(list, clocks, count, least, 0)
+}
+
+// The place of a row that lacks a next row by this edge, or 0. Rows ascend, so those in the edge's source location stand together. The regions
+// that the edge was walked from are kept in slots, by the numbers that it reads: in each slot the last.
 fn lacks_by_edge(list: &[u8], clocks: Clocks, count: usize, e: Edge) -> u16
     requires { ⌜ Listed clocks (now list) count ⌝ }
     requires { ⌜ Ascends (listed-rows (clocks .count) (now list) count) ⌝ }
@@ -117,22 +150,24 @@ fn lacks_by_edge(list: &[u8], clocks: Clocks, count: usize, e: Edge) -> u16
     ensures { λ r. ⌜ NextListed (edge-rows (bounds-of clocks) (edge-of (clocks .count) e)) (listed-rows (clocks .count) (now (list .entry)) count) r ⌝ }
 {
     let n = clocks.count as usize;
-    let mut walked = Sought {
-        found: false,
-        region: Region {
-            location: 0,
-            intervals: [0; 4],
-            ranks: [0; 4],
-        },
-    };
-    let mut i = 0;
+    let sole = is_deterministic(clocks, e);
+    let mut walked = [missing(); 64];
+    let mut i = rows_before(list, clocks, count, e.source);
+    let mut hint = rows_before(list, clocks, count, e.target);
     while i < count {
         let row = row_at(list, n, i);
-        let turn = leads_on(list, clocks, count, e, walked, row);
+        if row.location != e.source {
+            return 0;
+        }
+        let k = slot(e, row);
+        let last = walked[k];
+        let turn = leads_on(list, clocks, count, e, sole, last, row, hint);
         if !turn.inside {
             return (i + 1) as u16;
         }
-        walked = turn.walked;
+        hint = turn.at;
+        let kept = turn.walked;
+        walked[k] = kept;
         i += 1;
     }
     0

@@ -62,3 +62,40 @@ pub fn reads_same(clocks: Clocks, e: Edge, found: Sought, other: Region) -> bool
     }
     true
 }
+
+// A clock's interval and rank as one number: ranks of up to four clocks are below 5.
+fn joined(interval: u16, rank: u8) -> usize
+    ensures { λ r. ⌜ r ≤ 327930 ⌝ }
+{
+    5 * (interval as usize) + (rank as usize)
+}
+
+// The numbers of the clock that the update of clock z reads, or 0 if it reads none.
+fn key(a: Action, z: usize, from: Region) -> usize
+    requires { ⌜ z < 4 ⌝ }
+    ensures { λ r. ⌜ r ≤ 327930 ⌝ }
+{
+    match a {
+        Action::Keep => joined(from.intervals[z], from.ranks[z]),
+        Action::Constant(_) => 0,
+        Action::Clock(y, _, _) => {
+            let y = (y as usize) % 4;
+            joined(from.intervals[y], from.ranks[y])
+        }
+    }
+}
+
+// A slot for the numbers that the edge reads of a region. Any would be right; regions that differ in those numbers had better have different ones.
+pub fn slot(e: Edge, from: Region) -> usize
+    ensures { λ r. ⌜ r < 64 ⌝ }
+{
+    let mut mixed = 0;
+    let mut z = 0;
+    while z < 4 {
+        let u = e.updates[z];
+        let a = u.action;
+        mixed = (37 * mixed + key(a, z, from)) % 65536;
+        z += 1;
+    }
+    mixed % 64
+}

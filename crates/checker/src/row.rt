@@ -21,8 +21,8 @@ pub struct RowRead {
     pub region: Region,
 }
 
-// A byte as an interval's number.
-fn interval(x: u8) -> u16
+// A byte as one of a region's numbers.
+pub fn wide(x: u8) -> u16
     ensures { λ r. ⌜ r ≡ x ⌝ }
 {
     x as u16
@@ -36,7 +36,7 @@ fn intervals_in(bytes: &[u8], at: usize, n: usize) -> [u16; 4]
     let mut intervals: [u16; 4] = [0; 4];
     let mut z = 0;
     while z < n {
-        intervals[z] = interval(bytes[at + z]);
+        intervals[z] = wide(bytes[at + z]);
         z += 1;
     }
     intervals

@@ -7,13 +7,13 @@ ghost use Rattle.regions.specs.Checks.{every, has};
 ghost use Rattle.regions.specs.Values.{bounds-of, row-of};
 ghost use Rattle.checker.specs.Listed.{listed-rows, Listed};
 ghost use Rattle.checker.specs.RegionList.{NextListed};
-use crate::listed::is_listed;
+use crate::listed::find;
 use crate::listed::row_at;
 use regions::region::Clocks;
 use regions::region::Region;
 
-// Whether the region after this one in time is in the list, or there is none.
-fn waits_inside(list: &[u8], clocks: Clocks, count: usize, from: Region) -> bool
+// Whether the region after this one in time is in the list, or there is none. It mostly stands near the hint, right after this one.
+fn waits_inside(list: &[u8], clocks: Clocks, count: usize, from: Region, hint: usize) -> bool
     requires { ⌜ Listed clocks (now list) count ⌝ }
     requires { ⌜ Ascends (listed-rows (clocks .count) (now list) count) ⌝ }
     requires { ⌜ IsRow (bounds-of clocks) (row-of (clocks .count) from) ⌝ }
@@ -22,7 +22,8 @@ fn waits_inside(list: &[u8], clocks: Clocks, count: usize, from: Region) -> bool
     let next = from.wait(clocks);
     if next.found {
         let region = next.region;
-        return is_listed(list, clocks, count, region);
+        let found = find(list, clocks, count, region, hint);
+        return found.listed;
     }
     true
 }
@@ -37,7 +38,7 @@ pub fn lacks_wait(list: &[u8], clocks: Clocks, count: usize) -> u16
     let mut i = 0;
     while i < count {
         let row = row_at(list, n, i);
-        if !waits_inside(list, clocks, count, row) {
+        if !waits_inside(list, clocks, count, row, i + 1) {
             return (i + 1) as u16;
         }
         i += 1;

@@ -18,3 +18,5 @@ pub mod Order
 pub mod Move
 pub mod Placing
 pub mod Choice
+pub mod Visit
+pub mod Image

@@ -5,7 +5,7 @@ use crate::region::Region;
 ghost use mathlib.Core.Path.{_≡_};
 ghost use Prim.Native.Nat.{_+_, _*_, _≤_, _<_};
 ghost use Rattle.regions.specs.Clocks.{at};
-ghost use Rattle.regions.specs.Checks.{same-row, belowb};
+ghost use Rattle.regions.specs.Checks.{belowb};
 ghost use Rattle.regions.specs.Order.{numbers, shared};
 ghost use Rattle.regions.specs.Values.{row-of};
 
@@ -54,14 +54,5 @@ impl Region {
             return false;
         }
         self.number(n, i) < other.number(n, i)
-    }
-
-    // Whether the two regions are the same row.
-    pub fn is_same(self, clocks: Clocks, other: Region) -> bool
-        requires { ⌜ clocks .count ≤ 4 ⌝ }
-        ensures { λ r. ⌜ r ≡ same-row (row-of (clocks .count) self) (row-of (clocks .count) other) ⌝ }
-    {
-        let n = clocks.count as usize;
-        self.shared_numbers(n, other) == 1 + 2 * n
     }
 }

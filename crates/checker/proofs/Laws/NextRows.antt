@@ -7,11 +7,11 @@ use mathlib.Core.Path.{_≡_, refl, sym, ap, _∙_}
 use mathlib.Core.Bool.{Bool, true, false, _&&_}
 use mathlib.Core.Logic.{_↔_}
 use mathlib.Core.Option.{Option, none, some}
-use mathlib.Core.List.{List, [], _∷_, List·Memᴰ·head}
+use mathlib.Core.List.{List, [], _∷_}
 use lib.ListN.{length, getD}
 use lib.Dec.{eqb}
 use borrow.Author.Tests.{ne-eqb}
-use Rattle.regions.specs.Row.{Row, IsRow, Below}
+use Rattle.regions.specs.Row.{Row, IsRow}
 use Rattle.regions.specs.Wait.{wait}
 use Rattle.regions.specs.Edge.{Edge, Bounded}
 use Rattle.regions.specs.Automaton.{Table, blank, edge}
@@ -19,16 +19,13 @@ use Rattle.regions.specs.Closed.{Mem}
 use Rattle.regions.specs.Rows.{isrowb, rows-at, gather}
 use Rattle.regions.specs.Successors.{guardsb, placedb, leadsb, held, wait-rows, edge-rows}
 use Rattle.regions.specs.Checks.{every, has}
-use Rattle.regions.specs.Walk.{first-above}
 use Rattle.regions.specs.Values.{bounds-of, row-of, region-of, sought, found-of, edge-of}
 use Rattle.regions.specs.declared.edge.Edge as edge-code
 use Rattle.regions.specs.declared.region.Region.{Region}
 use Rattle.regions.specs.declared.region.Sought.{Sought}
 use Rattle.regions.proofs.Laws.Tests.{never, and-law, fails, refutes}
-use Rattle.regions.proofs.Laws.Members.{gather-in, gather-out, getD-in, in-getD, select-out, Sorted}
+use Rattle.regions.proofs.Laws.Members.{gather-in, gather-out, getD-in, in-getD}
 use Rattle.regions.proofs.Laws.Waiting.{wait-row}
-use Rattle.regions.proofs.Laws.Rows.{rows-at-out}
-use Rattle.regions.proofs.Laws.Successors.{edge-rows-ascend}
 use Rattle.regions.proofs.Laws.Checks.{has-law, every-law}
 use Rattle.tables.specs.Admission.{table-of}
 use Rattle.tables.specs.Values.{Describes}
@@ -38,10 +35,8 @@ use Rattle.tables.proofs.Laws.Admission.{admission-admitted}
 use Rattle.checker.specs.Listed.{listed-row, listed-rows}
 use Rattle.checker.specs.RegionList.{by-edges, NextListed}
 use Rattle.checker.specs.Leading.{reads-same, Kept}
-use Rattle.checker.proofs.Laws.SameNext.{same-rows}
+use Rattle.checker.proofs.Laws.SameNext.{select-none, same-rows}
 use Rattle.checker.proofs.Laws.RowRecords.{row-back}
-use Rattle.checker.proofs.Laws.Ordered.{ascends-sorted}
-use Rattle.checker.proofs.Laws.Walks.{beyond, beyond-none, beyond-end, beyond-next, next-in, select-none}
 use Rattle.checker.proofs.Laws.Listed.{listed-length, listed-at, in-listed}
 
 -- one region that may be missing ---------------------------------------------------------------------------------------------------------
@@ -118,74 +113,6 @@ kept-same c n sized rows e walked r kept same l g =
     let (f, s) = and-law (walked .found) (reads-same n e (row-of n (walked .region)) r) (itself (walked .found)) (itself (reads-same n e (row-of n (walked .region)) r)) .0 same in
     let k = kept f in
     sym (k .inside) ∙ ap (every (has rows)) (same-rows c e (row-of n (walked .region)) r (rw sized s) (k .leaves ∙ sym l) (k .guarded ∙ sym g))
-
--- the rows up to the floor pass: whether all do is whether those beyond it do
-pub record Walked (n : ℕ) (p : Row → Bool) (rows : List Row) (floor : Sought) : Type 0 where
-  pub so-far : every p rows ≡ every p (beyond (found-of n floor) rows)
-
--- how many are beyond it
-abbrev pub to-walk : ℕ → List Row → Sought → ℕ
-to-walk n rows floor = length (beyond (found-of n floor) rows)
-
-pub walk-begins : (n : ℕ) (p : Row → Bool) (rows : List Row) (region : Region) → Walked n p rows (record { found = false; region = region })
-walk-begins n p rows region = record { so-far = ap (every p) (sym (beyond-none rows)) }
-
-module _ (c : List ℕ) (n : ℕ) (sized : length c ≡ n) (p : Row → Bool) (e : Edge) (r : Row) where
-  all : List Row
-  all = edge-rows c e r
-
-  all-sorted : Sorted Below all
-  unfolding all
-  all-sorted = ascends-sorted all (edge-rows-ascend c e r)
-
-  all-rows : (x : Row) → Mem x all → IsRow c x
-  unfolding all edge-rows
-  all-rows x m = rows-at-out c (e .target) x (select-out (leadsb c e r) (rows-at c (e .target)) m .0) .1
-
-  module _ (floor : Sought) (s : Sought) (q : s ≡ sought (first-above (found-of n floor) (edge-rows c e r))) where
-    abbrev o : Option Row
-    o = first-above (found-of n floor) (edge-rows c e r)
-
-    met : Came n o s
-    unfolding all
-    met = came n o s q (λ x w. row-sized c n x sized (all-rows x (next-in (found-of n floor) (edge-rows c e r) x all-sorted w)))
-
-    next-is : (x : Row) → o ≡ some x → found-of n s ≡ some x → beyond (found-of n floor) (edge-rows c e r) ≡ x ∷ beyond (found-of n s) (edge-rows c e r)
-    unfolding all
-    next-is x w f = beyond-next (found-of n floor) (edge-rows c e r) x all-sorted w ∙ ap (λ (t : Option Row). x ∷ beyond t (edge-rows c e r)) (sym f)
-
-    -- a next row, and the walk falls
-    pub walk-less : s .found ≡ true → to-walk n (edge-rows c e r) s < to-walk n (edge-rows c e r) floor
-    walk-less f = go met
-      where
-        go : Came n o s → to-walk n (edge-rows c e r) s < to-walk n (edge-rows c e r) floor
-        go (nothing _ g) = never (sym g ∙ f)
-        go (something x w _ _ k) = omega (arith, ap length (next-is x w k))
-
-    module _ (W : Walked n p (edge-rows c e r) floor) where
-      -- the walk has ended: all are in the list
-      pub walk-ends : s .found ≡ false → true ≡ every p (edge-rows c e r)
-      walk-ends f = go met
-        where
-          go : Came n o s → true ≡ every p (edge-rows c e r)
-          go (nothing w _) = sym (W .so-far ∙ ap (every p) (beyond-end (found-of n floor) (edge-rows c e r) w))
-          go (something x w g _ _) = never (sym f ∙ g)
-
-      -- the next row is not in the list
-      pub walk-fails : s .found ≡ true → p (row-of n (s .region)) ≡ false → false ≡ every p (edge-rows c e r)
-      walk-fails f b = go met
-        where
-          go : Came n o s → false ≡ every p (edge-rows c e r)
-          go (nothing _ g) = never (sym g ∙ f)
-          go (something x w _ back k) = sym (W .so-far ∙ ap (every p) (next-is x w k) ∙ rw (sym (ap p back) ∙ b) refl)
-
-      -- it is, and the walk goes on from it
-      pub walk-on : s .found ≡ true → p (row-of n (s .region)) ≡ true → Walked n p (edge-rows c e r) s
-      walk-on f b = go met
-        where
-          go : Came n o s → Walked n p (edge-rows c e r) s
-          go (nothing _ g) = never (sym g ∙ f)
-          go (something x w _ back k) = record { so-far = W .so-far ∙ ap (every p) (next-is x w k) ∙ rw (sym (ap p back) ∙ b) refl }
 
 -- row by row -----------------------------------------------------------------------------------------------------------------------------
 

@@ -21,7 +21,11 @@ use Rattle.regions.proofs.Laws.Tests.{never, true-or-false, and-law, eqb-law, a
 use Rattle.regions.proofs.Laws.Lists.{at-greatest}
 use Rattle.tables.proofs.Laws.Reading.{itself}
 use Rattle.checker.specs.Leading.{agreeb, readsb, reads-same}
-use Rattle.checker.proofs.Laws.Walks.{select-none}
+
+-- where nothing passes a test, nothing is selected
+pub select-none : {A : Type 0} (p : A → Bool) (xs : List A) → ((x : A) → p x ≡ false) → select p xs ≡ []
+select-none p [] h = refl
+select-none p (x ∷ xs) h = rw (h x) (select-none p xs h)
 
 -- the least number that passes -----------------------------------------------------------------------------------------------------------
 

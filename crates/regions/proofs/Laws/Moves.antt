@@ -22,11 +22,11 @@ use Rattle.regions.specs.declared.clock_move.Move.{Move}
 use Rattle.regions.proofs.Laws.Values.{length-first, getD-mapped}
 
 -- what stands past the code's updates
-abbrev no-update : update-code.Update
+abbrev pub no-update : update-code.Update
 no-update = record { action = action-code.the-variants.Keep; comparison = 0 }
 
 module _ (k : Clocks) (v : Region) (e : edge-code.Edge) (few : k .count ≤ 4) (four : length (e .updates) ≡ 4) (z : ℕ) (l : z < k .count) where
-  its-update : getD (edge-of (k .count) e .updates) z idle ≡ update-of (getD (e .updates) z no-update)
+  pub its-update : getD (edge-of (k .count) e .updates) z idle ≡ update-of (getD (e .updates) z no-update)
   its-update = getD-mapped update-of (k .count) (e .updates) z no-update idle (omega arith) l
 
   -- the code's update keeps the bound rule

@@ -53,7 +53,7 @@ led-in : (c : List ℕ) (e : Edge) (r x : Row) → Led c e r x → Mem x (edge-r
 unfolding edge-rows
 led-in c e r x l = select-in (leadsb c e r) (rows-at-in c (e .target) x (l .0 .0 .0 .1) (l .0 .1)) (led-law c e r x .1 l)
 
-led-out : (c : List ℕ) (e : Edge) (r x : Row) → Mem x (edge-rows c e r) → Led c e r x
+pub led-out : (c : List ℕ) (e : Edge) (r x : Row) → Mem x (edge-rows c e r) → Led c e r x
 unfolding edge-rows
 led-out c e r x m = led-law c e r x .0 (select-out (leadsb c e r) (rows-at c (e .target)) m .1)
 
@@ -160,18 +160,20 @@ module _ (k : Clocks) (few : Few k) (four : length (k .bounds) ≡ 4) (v : Regio
     led-candidate x l = record { is-row = l .0 .1; placed = placed-is x (l .0 .1) ∙ l .1 }
 
     -- a clock whose move permits nothing
-    pub none-permit : (a : Sought) → allb n (some-permitted (ms .each)) ≡ false → a ≡ sought none → a ≡ sought (first-above (found-of n floor) (edge-rows c e r))
-    none-permit a h =
-        none-sought a (λ x l u. refutes (allb n (some-permitted (ms .each))) (allb-law n (some-permitted (ms .each)) (λ z. (λ g. g, λ g. g))) h (permit x (led-candidate x l)))
+    pub none-led : allb n (some-permitted (ms .each)) ≡ false → (x : Row) → Led c e r x → ⊥
+    none-led h x l = refutes (allb n (some-permitted (ms .each))) (allb-law n (some-permitted (ms .each)) (λ z. (λ g. g, λ g. g))) h (permit (led-candidate x l))
       where
-        permit : (x : Row) → Candidate s x → (z : ℕ) → z < n → some-permitted (ms .each) z ≡ true
-        permit x q z l =
+        permit : Candidate s x → (z : ℕ) → z < n → some-permitted (ms .each) z ≡ true
+        permit q z l =
             let m = getD (ms .each) z still in
             let j : ℕ = at (x .intervals) z in
             let top : j ≤ m .top = omega (arith, q .is-row .in-range z (omega (arith, clocks-count)), at-take n (k .bounds) z l, tops z l) in
             let p : permitsb m j ≡ true = placed-permits (ms .each) (ms .ranks) n (x .intervals) (x .ranks) (q .placed) z l in
             let low : least (permitsb m) (m .top + 1 - 0) 0 ≤ j = least-is (permitsb m) (m .top + 1 - 0) 0 .first j (omega arith) (omega arith) p in
             leb-law (least (permitsb m) (m .top + 1 - 0) 0) (m .top) .1 (omega arith)
+
+    pub none-permit : (a : Sought) → allb n (some-permitted (ms .each)) ≡ false → a ≡ sought none → a ≡ sought (first-above (found-of n floor) (edge-rows c e r))
+    none-permit a h = none-sought a (λ x l u. none-led h x l)
 
     -- the walk begins in the target, with the floor to be looked at where it is there too
     module _ (tight : Bool) (t : tight ≡ (floor .found && eqb (floor .region .location) (d .target))) where
@@ -207,21 +209,23 @@ module _ (k : Clocks) (few : Few k) (four : length (k .bounds) ≡ 4) (v : Regio
                 below g (is-eq h _) = before-below f x same-length (g (w .1 (refl, h)))
                 below g (is-gt h _) = never (sym p ∙ ltb-law (d .target) (f .location) .1 h)
 
+        module _ (leaves : v .location ≡ d .source) (guarded : guardsb r (e .guards) ≡ true) where
+          pub goal-led : (x : Row) → Goal s part 1 tight x → Sought-rows x
+          goal-led x q =
+              let l : x .location ≡ d .target = q .agrees 0 (omega arith) in
+              let i : IsRow c x = q .held .is-row in
+              (led-in c e r x ((((leaves, l), guarded), i), sym (placed-is x i) ∙ q .held .placed), floor-law x i l .1 (q .above))
+
+          pub led-goal : (x : Row) → Sought-rows x → Goal s part 1 tight x
+          led-goal x q =
+              let l : Led c e r x = led-out c e r x (q .0) in
+              record {
+                held = led-candidate x l;
+                agrees = λ j h. let z : j ≡ 0 = omega arith in rw z (l .0 .0 .0 .1);
+                above = floor-law x (l .0 .1) (l .0 .0 .0 .1) .0 (q .1);
+              }
+
         pub walked : (a : Sought) → v .location ≡ d .source → guardsb r (e .guards) ≡ true → Answers (Goal s part 1 tight) a
             → a ≡ sought (first-above (found-of n floor) (edge-rows c e r))
-        walked a leaves guarded = answer-is (found-of n floor) (edge-rows c e r) (led-sorted c e r) (Goal s part 1 tight) a to back
-          where
-            to : (x : Row) → Goal s part 1 tight x → Sought-rows x
-            to x q =
-                let l : x .location ≡ d .target = q .agrees 0 (omega arith) in
-                let i : IsRow c x = q .held .is-row in
-                (led-in c e r x ((((leaves, l), guarded), i), sym (placed-is x i) ∙ q .held .placed), floor-law x i l .1 (q .above))
-
-            back : (x : Row) → Sought-rows x → Goal s part 1 tight x
-            back x q =
-                let l : Led c e r x = led-out c e r x (q .0) in
-                record {
-                  held = led-candidate x l;
-                  agrees = λ j h. let z : j ≡ 0 = omega arith in rw z (l .0 .0 .0 .1);
-                  above = floor-law x (l .0 .1) (l .0 .0 .0 .1) .0 (q .1);
-                }
+        walked a leaves guarded =
+            answer-is (found-of n floor) (edge-rows c e r) (led-sorted c e r) (Goal s part 1 tight) a (goal-led leaves guarded) (led-goal leaves guarded)

@@ -166,10 +166,6 @@ module _ (n : ℕ) (v w : Region) where
     intervals-alike : length (take n (v .intervals)) ≡ length (take n (w .intervals))
     intervals-alike = length-first n (v .intervals) few (four .0) ∙ sym (length-first n (w .intervals) few (four′ .0))
 
-    -- the same row where all numbers are shared
-    pub same-is : eqb (shared ours theirs) (1 + 2 * n) ≡ same-row (row-of n v) (row-of n w)
-    same-is = rw (← long) (same-shared ours theirs alike) ∙ row-same (row-of n v) (row-of n w) intervals-alike
-
     module _ (i : ℕ) (e : i ≡ shared ours theirs) where
       -- below where the first number that is not shared is less
       pub below-is : ltb (at ours i) (at theirs i) ≡ belowb (row-of n v) (row-of n w)

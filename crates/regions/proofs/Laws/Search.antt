@@ -22,7 +22,7 @@ use Rattle.regions.proofs.Laws.Rows.{isrowb-law}
 use Rattle.regions.proofs.Laws.Placing.{placed-less}
 use Rattle.regions.proofs.Laws.Numbers.{count-numbers, put-numbers, put-plain}
 use Rattle.regions.proofs.Laws.Choice.{stuck-none, not-stuck}
-use Rattle.regions.proofs.Laws.Walk.{found-answer, none-answer, from-floor, found-here, none-here, follows, floor-alone, not-held, held-alone}
+use Rattle.regions.proofs.Laws.Walk.{found-answer, none-answer, from-floor, found-here, none-here, follows, floor-alone, only, not-held, held-alone}
 
 -- four numbers each
 pub record Four (v : Region) : Type 0 where
@@ -50,7 +50,7 @@ module _ (s : Search) (ready : Ready s) (four : length (s .clocks .bounds) ≡ 4
       let e = length-first n (s .clocks .bounds) (ready .few .few) four in
       (q .is-row .intervals-length ∙ e, q .is-row .ranks-length ∙ e)
 
-  long : (v : Region) → Four v → length (numbers-of s v) ≡ 1 + 2 * n
+  pub long : (v : Region) → Four v → length (numbers-of s v) ≡ 1 + 2 * n
   long v f = count-numbers n (row-of n v) (length-first n (v .intervals) (ready .few .few) (f .intervals)) (length-first n (v .ranks) (ready .few .few) (f .ranks))
 
   -- no positions for the ranks chosen so far
@@ -106,11 +106,25 @@ module _ (s : Search) (ready : Ready s) (four : length (s .clocks .bounds) ≡ 4
     pub at-floor : (r : Sought) → tight ≡ true → r ≡ sought none → Answers Q r
     at-floor r t e = nothing Q r e (floor-alone n (Candidate s) sized (numbers-of s (s .floor)) (numbers-of s part) (long (s .floor) floor) (long part fours) i tight (way .along) ended t)
 
+    -- the part is all that it can become
+    pub itself : (x : Row) → Q x → x ≡ row-of n part
+    itself = only n (Candidate s) sized (numbers-of s (s .floor)) (numbers-of s part) (long (s .floor) floor) (long part fours) i tight (way .along) ended
+        (row-of n part) (length-first n (part .intervals) (ready .few .few) (fours .intervals)) refl
+
+    pub no-candidate : isrowb (bounds-of (s .clocks)) (row-of n part) ≡ false → Candidate s (row-of n part) → ⊥
+    no-candidate g q = never (sym g ∙ isrowb-law (bounds-of (s .clocks)) (row-of n part) .1 (q .is-row))
+
+    pub candidate : isrowb (bounds-of (s .clocks)) (row-of n part) ≡ true → stuckb s part i ≡ false → Candidate s (row-of n part)
+    candidate g h = record {
+      is-row = isrowb-law (bounds-of (s .clocks)) (row-of n part) .0 g;
+      placed = placed-less (s .moves .each) (s .moves .ranks) n n (part .intervals) (part .ranks) (take n (part .intervals)) (take n (part .ranks)) (omega arith)
+          (λ z l. (sym (at-take n (part .intervals) z l), sym (at-take n (part .ranks) z l))) (not-stuck s ready four part (fours .intervals) i h ended);
+    }
+
     pub no-region : (r : Sought) → isrowb (bounds-of (s .clocks)) (row-of n part) ≡ false → r ≡ sought none → Answers Q r
     no-region r g e =
         nothing Q r e (not-held n (Candidate s) sized (numbers-of s (s .floor)) (numbers-of s part) (long (s .floor) floor) (long part fours) i tight (way .along) ended
-        (row-of n part) (length-first n (part .intervals) (ready .few .few) (fours .intervals)) refl
-        (λ q. never (sym g ∙ isrowb-law (bounds-of (s .clocks)) (row-of n part) .1 (q .is-row))))
+        (row-of n part) (length-first n (part .intervals) (ready .few .few) (fours .intervals)) refl (no-candidate g))
 
     pub arrived : tight ≡ false → isrowb (bounds-of (s .clocks)) (row-of n part) ≡ true → stuckb s part i ≡ false
         → Answers Q (record { found = true; region = part })
@@ -119,10 +133,5 @@ module _ (s : Search) (ready : Ready s) (four : length (s .clocks .bounds) ≡ 4
       given = ap (λ (v : Region). record { found = true; region = v }) (sym (way .plain));
       first =
           held-alone n (Candidate s) sized (numbers-of s (s .floor)) (numbers-of s part) (long (s .floor) floor) (long part fours) i tight (way .along) ended
-          (row-of n part) (length-first n (part .intervals) (ready .few .few) (fours .intervals)) refl t
-          (record {
-            is-row = isrowb-law (bounds-of (s .clocks)) (row-of n part) .0 g;
-            placed = placed-less (s .moves .each) (s .moves .ranks) n n (part .intervals) (part .ranks) (take n (part .intervals)) (take n (part .ranks)) (omega arith)
-                (λ z l. (sym (at-take n (part .intervals) z l), sym (at-take n (part .ranks) z l))) (not-stuck s ready four part (fours .intervals) i h ended);
-          });
+          (row-of n part) (length-first n (part .intervals) (ready .few .few) (fours .intervals)) refl t (candidate g h);
     }

@@ -39,6 +39,28 @@ module _ (Q Q′ : Row → Type 0) (r : Sought) where
       go none g f = f
       go (some y) g f = never (sym e ∙ ap (λ (s : Sought). s .found) g)
 
+-- one number more ----------------------------------------------------------------------------------------------------------------------
+
+module _ (ps : List ℕ) (i k : ℕ) (within : i < length ps) (xs : List ℕ) where
+  here : at (set ps i k) i ≡ k
+  here = getD-set-same ps i k 0 within
+
+  elsewhere : (j : ℕ) → j < i → at (set ps i k) j ≡ at ps j
+  elsewhere j l = getD-set-other ps i j k 0 (λ s. omega arith)
+
+  pub agree-on : Agree i xs ps → at xs i ≡ k → Agree (i + 1) xs (set ps i k)
+  agree-on a f j l = go (ℕ-discrete j i)
+    where
+      go : Dec (j ≡ i) → at xs j ≡ at (set ps i k) j
+      go (yes s) = rw s (f ∙ sym here)
+      go (no s) = a j (omega arith) ∙ sym (elsewhere j (omega arith))
+
+  pub agree-less : Agree (i + 1) xs (set ps i k) → Agree i xs ps
+  agree-less a j l = a j (omega arith) ∙ elsewhere j l
+
+  pub agree-number : Agree (i + 1) xs (set ps i k) → at xs i ≡ k
+  agree-number a = a i (omega arith) ∙ here
+
 -- one choice ----------------------------------------------------------------------------------------------------------------------------
 
 -- rows of n clocks, and the numbers of a floor and a part
@@ -68,27 +90,17 @@ module _ (n : ℕ) (C : Row → Type 0) (sized : (x : Row) → C x → (length (
       still-law : Says tight′ ((tight ≡ true) × (k ≡ at floor i))
       still-law = rw e (and-law tight (eqb k (at floor i)) (λ h. h, λ h. h) (eqb-law k (at floor i)))
 
-      here : at (set ps i k) i ≡ k
-      here = getD-set-same ps i k 0 (omega arith)
-
-      elsewhere : (j : ℕ) → j < i → at (set ps i k) j ≡ at ps j
-      elsewhere j l = getD-set-other ps i j k 0 (λ s. omega arith)
-
       down : (x : Row) → Q x → at (numbers x) i ≡ k → Q′ x
-      down x q f = record { held = q .held; agrees = λ j l. go j l (ℕ-discrete j i); above = λ t. q .above (still-law .0 t .0) }
-        where
-          go : (j : ℕ) → j < i + 1 → Dec (j ≡ i) → at (numbers x) j ≡ at (set ps i k) j
-          go j l (yes s) = rw s (f ∙ sym here)
-          go j l (no s) = q .agrees j (omega arith) ∙ sym (elsewhere j (omega arith))
+      down x q f = record { held = q .held; agrees = agree-on ps i k (omega arith) (numbers x) (q .agrees) f; above = λ t. q .above (still-law .0 t .0) }
 
       number-is : (x : Row) → Q′ x → at (numbers x) i ≡ k
-      number-is x q = q .agrees i (omega arith) ∙ here
+      number-is x q = agree-number ps i k (omega arith) (numbers x) (q .agrees)
 
       up : (x : Row) → Q′ x → Q x
       up x q = record { held = q .held; agrees = agrees; above = λ t. go t (ℕ-discrete k (at floor i)) }
         where
           agrees : Agree i (numbers x) ps
-          agrees j l = q .agrees j (omega arith) ∙ elsewhere j l
+          agrees = agree-less ps i k (omega arith) (numbers x) (q .agrees)
 
           go : tight ≡ true → Dec (k ≡ at floor i) → Before floor (numbers x)
           go t (yes s) = q .above (still-law .1 (t, s))
@@ -116,11 +128,7 @@ module _ (n : ℕ) (C : Row → Type 0) (sized : (x : Row) → C x → (length (
           go (no f) = omega (arith, low x q)
 
       pub follows : tight′ ≡ true → Agree (i + 1) (set ps i k) floor
-      follows t j l = go (ℕ-discrete j i)
-        where
-          go : Dec (j ≡ i) → at (set ps i k) j ≡ at floor j
-          go (yes s) = rw s (here ∙ still-law .0 t .1)
-          go (no s) = elsewhere j (omega arith) ∙ along (still-law .0 t .0) j (omega arith)
+      follows t j l = sym (agree-on ps i k (omega arith) floor (λ j l. sym (along (still-law .0 t .0) j l)) (sym (still-law .0 t .1)) j l)
 
   -- all are chosen
   module _ (ended : i ≡ 1 + 2 * n) where
@@ -133,7 +141,7 @@ module _ (n : ℕ) (C : Row → Type 0) (sized : (x : Row) → C x → (length (
         not-before-itself floor (rw (chosen x q ∙ e) at (q .above t))
 
     module _ (y : Row) (s : length (y .intervals) ≡ n) (f : numbers y ≡ ps) where
-      only : (x : Row) → Q x → x ≡ y
+      pub only : (x : Row) → Q x → x ≡ y
       only x q = numbers-equal x y (sized x (q .held) .0 ∙ sym s) (chosen x q ∙ sym f)
 
       pub not-held : (C y → ⊥) → First Q none

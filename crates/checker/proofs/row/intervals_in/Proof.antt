@@ -10,7 +10,7 @@ use Rattle.checker.proofs.row.intervals_in.Statement.{statement}
 use Rattle.checker.proofs.row.intervals_in.Tie as tie
 use Rattle.checker.proofs.row.intervals_in.Reads as reads
 use Rattle.checker.proofs.row.intervals_in.Lts as lts
-use Rattle.checker.proofs.row.interval.Reads as interval-reads
+use Rattle.checker.proofs.row.wide.Reads as wide-reads
 
 abbrev Inv-loop : tie.InvT-loop
 Inv-loop bytes at n intervals₀ z₀ intervals z = (z ≤ n) × (intervals ≡ padded (each z (byte-from bytes at)))
@@ -23,16 +23,16 @@ loop-holds : tie.Need-loop-holds Inv-loop μ-loop
 loop-holds c = (search needs, refl)
 
 -- src/row.rt:38:39
-add-interval : tie.Need-add-interval Inv-loop μ-loop
-add-interval c = search needs
+add-wide : tie.Need-add-wide Inv-loop μ-loop
+add-wide c = search needs
 
 -- src/row.rt:38:33
-shared-slice-read-interval : tie.Need-shared-slice-read-interval Inv-loop μ-loop
-shared-slice-read-interval c = search needs
+shared-slice-read-wide : tie.Need-shared-slice-read-wide Inv-loop μ-loop
+shared-slice-read-wide c = search needs
 
 -- src/row.rt:38:24
-interval-requires : tie.Need-interval-requires Inv-loop μ-loop
-interval-requires c κs = search needs
+wide-requires : tie.Need-wide-requires Inv-loop μ-loop
+wide-requires c κs = search needs
 
 -- src/row.rt:38:9
 mul-intervals : tie.Need-mul-intervals Inv-loop μ-loop
@@ -52,7 +52,7 @@ loop-less c = search needs
 
 -- src/row.rt:37:5
 loop-again : tie.Need-loop-again Inv-loop μ-loop
-loop-again c = (omega arith, filled-more _ _ _ _ (omega arith) (c .before .before .before .loop .inv .1) (c .interval .ensures))
+loop-again c = (omega arith, filled-more _ _ _ _ (omega arith) (c .before .before .before .loop .inv .1) (c .wide .ensures))
 
 -- src/row.rt:31:1
 returns : tie.Need-returns Inv-loop μ-loop
@@ -65,9 +65,9 @@ intervals-in-spec =
     Inv-loop
     μ-loop
     loop-holds
-    add-interval
-    shared-slice-read-interval
-    interval-requires
+    add-wide
+    shared-slice-read-wide
+    wide-requires
     mul-intervals
     array-write-intervals
     add-z

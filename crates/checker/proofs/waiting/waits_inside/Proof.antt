@@ -1,30 +1,30 @@
-use denote.Ref.{now}
-use Rattle.regions.specs.Checks.{has}
-use Rattle.checker.specs.Listed.{listed-rows}
 use Rattle.checker.proofs.Laws.NextRows.{wait-found, wait-missing}
+use Rattle.checker.specs.Listed.{listed-rows}
+use Rattle.regions.specs.Checks.{has}
+use denote.Ref.{now}
 use borrow.Author.Needs.{needs}
 use Rattle.checker.proofs.waiting.waits_inside.Statement.{statement}
 use Rattle.checker.proofs.waiting.waits_inside.Tie as tie
 use Rattle.checker.proofs.waiting.waits_inside.Reads as reads
 use Rattle.checker.proofs.waiting.waits_inside.Lts as lts
-use Rattle.checker.proofs.listed.is_listed.Reads as is-listed-reads
+use Rattle.checker.proofs.listed.find.Reads as find-reads
 use Rattle.regions.proofs.region.Region.wait.Reads as wait-reads
 
--- src/next_rows.rt:31:9
+-- src/waiting.rt:22:9
 wait-requires : tie.Need-wait-requires
 wait-requires c κs = (c .before .pre .0 .few, c .before .pre .1 .1)
 
--- src/next_rows.rt:34:9
-is-listed-requires : tie.Need-is-listed-requires
-is-listed-requires c κs = search needs
+-- src/waiting.rt:25:13
+find-requires : tie.Need-find-requires
+find-requires c κs = search needs
 
--- src/next_rows.rt:34:9
+-- src/waiting.rt:26:9
 returns : tie.Need-returns
-returns c = wait-found _ _ (c .before .before .before .before .before .pre .0 .sized) (has (listed-rows (c .before .before .before .before .before .args .clocks .count) (now (c .before .before .before .before .before .args .list)) (c .before .before .before .before .before .args .count))) _ (c .before .before .before .before .before .pre .1 .1) _ (c .before .before .before .wait .ensures) (c .before .before .if1 .taken) _ (c .is-listed .ensures)
+returns c = wait-found _ _ (c .before .before .before .before .before .pre .0 .sized) (has (listed-rows (c .before .before .before .before .before .args .clocks .count) (now (c .before .before .before .before .before .args .list)) (c .before .before .before .before .before .args .count))) _ (c .before .before .before .before .before .pre .1 .1) _ (c .before .before .before .wait .ensures) (c .before .before .if1 .taken) _ (c .find .ensures)
 
--- src/next_rows.rt:25:1
+-- src/waiting.rt:16:1
 returns-2 : tie.Need-returns-2
 returns-2 c = wait-missing _ _ (c .before .before .before .pre .0 .sized) (has (listed-rows (c .before .before .before .args .clocks .count) (now (c .before .before .before .args .list)) (c .before .before .before .args .count))) _ (c .before .before .before .pre .1 .1) _ (c .before .wait .ensures) (c .if1 .left)
 
 pub waits-inside-spec : {M : Type 1} → statement M
-waits-inside-spec = tie.close (tie.spec wait-requires is-listed-requires returns returns-2)
+waits-inside-spec = tie.close (tie.spec wait-requires find-requires returns returns-2)
