@@ -7,7 +7,9 @@ ghost use Rattle.tables.specs.Values.{Describes};
 ghost use Rattle.checker.specs.RegionFile.{ascending, none-final};
 ghost use Rattle.checker.specs.Listed.{listed-row, listed-rows, Listed};
 ghost use Rattle.checker.specs.RegionList.{passed};
+use crate::listed::location_at;
 use crate::listed::row_at;
+use crate::listed::row_is_below;
 use regions::region::Clocks;
 use tables::admission::Head;
 use tables::admission::is_final;
@@ -20,9 +22,8 @@ pub fn first_unordered(list: &[u8], clocks: Clocks, count: usize) -> u16
     let n = clocks.count as usize;
     let mut i = 0;
     while i + 1 < count {
-        let row = row_at(list, n, i);
         let next = row_at(list, n, i + 1);
-        if !row.is_below(clocks, next) {
+        if !row_is_below(list, n, i, next) {
             return (i + 2) as u16;
         }
         i += 1;
@@ -41,8 +42,7 @@ pub fn first_final(table: &[u8], head: Head, list: &[u8], count: usize) -> u16
     let n = clocks.count as usize;
     let mut i = 0;
     while i < count {
-        let row = row_at(list, n, i);
-        if is_final(table, head, row.location) {
+        if is_final(table, head, location_at(list, n, i)) {
             return (i + 1) as u16;
         }
         i += 1;

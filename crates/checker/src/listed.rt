@@ -23,6 +23,15 @@ pub fn row_at(list: &[u8], n: usize, i: usize) -> Region
     region_in(&list[at..at + size], n)
 }
 
+// The location of row i.
+pub fn location_at(list: &[u8], n: usize, i: usize) -> u8
+    requires { ⌜ n ≤ 4 ⌝ }
+    requires { ⌜ 4 + i * (3 + 2 * n) + (3 + 2 * n) ≤ length (now list) ⌝ }
+    ensures { λ r. ⌜ r ≡ listed-row n (now (list .entry)) i .location ⌝ }
+{
+    list[6 + i * (3 + 2 * n)]
+}
+
 // How many numbers of row i and of a region are the same before they differ. A row's numbers stand in its bytes, after the mark, in the order
 // in which regions are compared, so nothing is copied.
 fn shared_with(list: &[u8], n: usize, i: usize, wanted: Region) -> usize
@@ -43,7 +52,7 @@ fn shared_with(list: &[u8], n: usize, i: usize, wanted: Region) -> usize
 }
 
 // Whether row i comes before a region.
-fn row_is_below(list: &[u8], n: usize, i: usize, wanted: Region) -> bool
+pub fn row_is_below(list: &[u8], n: usize, i: usize, wanted: Region) -> bool
     requires { ⌜ n ≤ 4 ⌝ }
     requires { ⌜ 4 + i * (3 + 2 * n) + (3 + 2 * n) ≤ length (now list) ⌝ }
     ensures { λ r. ⌜ r ≡ belowb (listed-row n (now (list .entry)) i) (row-of n wanted) ⌝ }

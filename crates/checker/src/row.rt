@@ -1,8 +1,10 @@
 // Row records, by value.
 ghost use mathlib.Core.Path.{_≡_};
+ghost use mathlib.Core.Bool.{cond};
 ghost use Prim.Native.Nat.{ℕ, _+_, _*_, _≤_};
 ghost use mathlib.Core.List.{List};
 ghost use lib.ListN.{length};
+ghost use lib.Dec.{ltb};
 ghost use Rattle.regions.specs.Clocks.{at, each};
 ghost use Rattle.regions.specs.Closed.{first-row};
 ghost use Rattle.regions.specs.Values.{padded, region-of};
@@ -28,18 +30,27 @@ pub fn wide(x: u8) -> u16
     x as u16
 }
 
+// Byte z of the n from at on, or 0 after them.
+fn byte_of(bytes: &[u8], at: usize, n: usize, z: usize) -> u8
+    requires { ⌜ at + n ≤ length (now bytes) ⌝ }
+    ensures { λ r. ⌜ r ≡ cond (ltb z n) (byte-from (now (bytes .entry)) at z) 0 ⌝ }
+{
+    if z < n {
+        return bytes[at + z];
+    }
+    0
+}
+
 // The n bytes from at on as intervals, zeros after them.
 fn intervals_in(bytes: &[u8], at: usize, n: usize) -> [u16; 4]
     requires { ⌜ (n ≤ 4) × (at + n ≤ length (now bytes)) ⌝ }
     ensures { λ r. ⌜ r ≡ padded (each n (byte-from (now (bytes .entry)) at)) ⌝ }
 {
-    let mut intervals: [u16; 4] = [0; 4];
-    let mut z = 0;
-    while z < n {
-        intervals[z] = wide(bytes[at + z]);
-        z += 1;
-    }
-    intervals
+    let first = wide(byte_of(bytes, at, n, 0));
+    let second = wide(byte_of(bytes, at, n, 1));
+    let third = wide(byte_of(bytes, at, n, 2));
+    let fourth = wide(byte_of(bytes, at, n, 3));
+    [first, second, third, fourth]
 }
 
 // The n bytes from at on as ranks, zeros after them.
@@ -47,13 +58,11 @@ fn ranks_in(bytes: &[u8], at: usize, n: usize) -> [u8; 4]
     requires { ⌜ (n ≤ 4) × (at + n ≤ length (now bytes)) ⌝ }
     ensures { λ r. ⌜ r ≡ padded (each n (byte-from (now (bytes .entry)) at)) ⌝ }
 {
-    let mut ranks: [u8; 4] = [0; 4];
-    let mut z = 0;
-    while z < n {
-        ranks[z] = bytes[at + z];
-        z += 1;
-    }
-    ranks
+    let first = byte_of(bytes, at, n, 0);
+    let second = byte_of(bytes, at, n, 1);
+    let third = byte_of(bytes, at, n, 2);
+    let fourth = byte_of(bytes, at, n, 3);
+    [first, second, third, fourth]
 }
 
 // The region in the bytes of a row record.

@@ -1,11 +1,13 @@
 -- An array of four that a loop fills from the front, zeros after what it has filled. Assumes nothing.
-use Prim.Native.Nat.{ℕ, zero, suc, _+_, _-_, _<_}
+use Prim.Native.Nat.{ℕ, zero, suc, _+_, _-_, _≤_, _<_}
 use native.Mathlib.Numerals.{add-one}
 use native.Mathlib.Omega.{arith}
 use mathlib.Core.Path.{_≡_, refl, sym, ap, _∙_}
+use mathlib.Core.Bool.{cond}
 use mathlib.Core.List.{List, [], _∷_, _++_, append-assoc}
 use lib.ListN.{length, set, replicate}
 use lib.Seq.{set-at}
+use lib.Dec.{ltb}
 use Rattle.regions.specs.Clocks.{each}
 use Rattle.regions.specs.Values.{padded}
 use Rattle.regions.proofs.Laws.Lists.{length-each}
@@ -31,3 +33,13 @@ filled-more f z l v h e q =
     ∙ set-at (each z f) 0 (replicate (4 - suc z) 0) (f z) z (length-each z f)
     ∙ sym after
     ∙ ap (λ (k : ℕ). padded (each k f)) (sym (add-one z))
+
+-- four numbers side by side
+pub four-filled : (f : ℕ → ℕ) (n : ℕ) → n ≤ 4 → (a b c d : ℕ) → a ≡ cond (ltb 0 n) (f 0) 0 → b ≡ cond (ltb 1 n) (f 1) 0 → c ≡ cond (ltb 2 n) (f 2) 0 → d ≡ cond (ltb 3 n) (f 3) 0
+    → a ∷ (b ∷ (c ∷ (d ∷ []))) ≡ padded (each n f)
+four-filled f zero h a b c d p q r s = λ i. p i ∷ (q i ∷ (r i ∷ (s i ∷ [])))
+four-filled f (suc zero) h a b c d p q r s = λ i. p i ∷ (q i ∷ (r i ∷ (s i ∷ [])))
+four-filled f (suc (suc zero)) h a b c d p q r s = λ i. p i ∷ (q i ∷ (r i ∷ (s i ∷ [])))
+four-filled f (suc (suc (suc zero))) h a b c d p q r s = λ i. p i ∷ (q i ∷ (r i ∷ (s i ∷ [])))
+four-filled f (suc (suc (suc (suc zero)))) h a b c d p q r s = λ i. p i ∷ (q i ∷ (r i ∷ (s i ∷ [])))
+four-filled f (suc (suc (suc (suc (suc n))))) h a b c d p q r s = absurd (omega arith)

@@ -63,6 +63,9 @@ module _ (n : ℕ) (list : List ℕ) (i : ℕ) where
       ∙ getD-drop (4 + i * (3 + 2 * n)) list (2 + j) 0
       ∙ ap (at list) w
 
+  pub listed-location : at list (6 + i * (3 + 2 * n)) ≡ listed-row n list i .location
+  listed-location = let w : 6 + i * (3 + 2 * n) ≡ 6 + i * (3 + 2 * n) + 0 = omega arith in ap (at list) w ∙ sym (listed-number 0 (omega arith))
+
   pub intervals-long : length (listed-row n list i .intervals) ≡ n
   unfolding listed-row
   intervals-long = length-each n _
