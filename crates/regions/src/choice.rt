@@ -92,7 +92,7 @@ impl Search {
         ensures { λ r. ⌜ r ≡ stuckb self part i ⌝ }
     {
         let n = self.clocks.count as usize;
-        if i <= n {
+        if i <= n + 1 {
             return false;
         }
         let moves = self.moves;

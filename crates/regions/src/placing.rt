@@ -5,13 +5,16 @@ use crate::edge::Edge;
 use crate::region::Clocks;
 use crate::region::Region;
 ghost use mathlib.Core.Path.{_≡_};
+ghost use mathlib.Core.Bool.{not, _||_};
 ghost use Prim.Native.Nat.{ℕ, _+_, _*_, _-_, _≤_, _<_};
 ghost use lib.ListN.{getD};
+ghost use lib.Dec.{eqb};
 ghost use Rattle.regions.specs.Clocks.{allb};
 ghost use Rattle.regions.specs.Edge.{Bounded};
 ghost use Rattle.regions.specs.Successors.{least};
+ghost use Rattle.regions.specs.Move.{fits-at};
 ghost use Rattle.regions.specs.Values.{Few, bounds-of, row-of, edge-of};
-ghost use Rattle.regions.specs.Placing.{still, clock-fits-at, rank-fits-at, greedy-at, placed-at, some-permitted, MovesOf};
+ghost use Rattle.regions.specs.Placing.{still, rank-fits-at, greedy-at, placed-at, some-permitted, MovesOf};
 
 // What an edge's updates ask of the new region: how many ranks the old one has, and each clock's move.
 pub struct Moves {
@@ -48,6 +51,16 @@ impl Region {
     }
 }
 
+// Whether a clock that is in its new interval, with its new rank, has another rank than this one or fits at the position.
+fn clock_fits(asked: Move, interval: u16, own: u8, rank: u8, position: u8) -> bool
+    ensures { λ r. ⌜ r ≡ (not (eqb own rank) || fits-at asked interval position) ⌝ }
+{
+    if own != rank {
+        return true;
+    }
+    asked.fits_at(interval, position)
+}
+
 impl Moves {
     // Whether each of the first clocks has an interval that its move permits.
     pub fn all_permit(self, count: usize) -> bool
@@ -66,18 +79,6 @@ impl Moves {
         true
     }
 
-    // Whether clock z of the new region has another rank, or fits at the position.
-    fn clock_fits(self, part: Region, z: usize, rank: u8, position: u8) -> bool
-        requires { ⌜ z < 4 ⌝ }
-        ensures { λ r. ⌜ r ≡ clock-fits-at (self .each) (part .intervals) (part .ranks) rank position z ⌝ }
-    {
-        if part.ranks[z] != rank {
-            return true;
-        }
-        let asked = self.each[z];
-        asked.fits_at(part.intervals[z], position)
-    }
-
     // Whether those of the first clocks that have the rank fit at the position.
     fn rank_fits(self, part: Region, count: usize, rank: u8, position: u8) -> bool
         requires { ⌜ count ≤ 4 ⌝ }
@@ -85,7 +86,8 @@ impl Moves {
     {
         let mut z = 0;
         while z < count {
-            if !self.clock_fits(part, z, rank, position) {
+            let asked = self.each[z];
+            if !clock_fits(asked, part.intervals[z], part.ranks[z], rank, position) {
                 return false;
             }
             z += 1;

@@ -6,15 +6,16 @@ use mathlib.Core.Bool.{Bool, true, false, cond, not, _&&_}
 use mathlib.Core.Logic.{_⊎_, inl, inr}
 use mathlib.Core.List.{List}
 use lib.ListN.{length, getD, take}
-use borrow.Author.Tests.{le-ltb, lt-ltb}
-use Rattle.regions.specs.Clocks.{at}
+use lib.Dec.{ltb}
+use borrow.Author.Tests.{lt-ltb, le-leb}
+use Rattle.regions.specs.Clocks.{at, allb}
 use Rattle.regions.specs.Row.{Row, Open, IsRow}
 use Rattle.regions.specs.Rows.{openb}
 use Rattle.regions.specs.Successors.{least}
 use Rattle.regions.specs.Values.{bounds-of, row-of}
 use Rattle.regions.specs.Order.{numbers}
 use Rattle.regions.specs.Move.{permitsb}
-use Rattle.regions.specs.Placing.{still, placed-at}
+use Rattle.regions.specs.Placing.{still, rank-fits-at, greedy-at, placed-at}
 use Rattle.regions.specs.Choice.{Agree, Candidate, Ready, numbers-of, rank-limit, stuckb, Skips, Ends}
 use Rattle.regions.specs.declared.clock_move.Move.{Move}
 use Rattle.regions.specs.declared.region.Region.{Region}
@@ -165,9 +166,14 @@ module _ (s : Search) (ready : Ready s) (four : length (s .clocks .bounds) ≡ 4
 
 -- the code's tests
 module _ (s : Search) (part : Region) (i : ℕ) where
-  pub not-yet : i ≤ s .clocks .count → false ≡ stuckb s part i
-  unfolding stuckb
-  not-yet h = rw (le-ltb (s .clocks .count) i h)
+  -- no rank is chosen yet
+  pub not-yet : i ≤ s .clocks .count + 1 → false ≡ stuckb s part i
+  unfolding stuckb placed-at rank-fits-at allb greedy-at
+  not-yet h = let z : i - 1 - s .clocks .count ≡ 0 = omega arith in rw (z, le-leb 0 (2 * s .moves .ranks) (omega arith)) (sym (and-false (ltb (s .clocks .count) i)))
+    where
+      and-false : (b : Bool) → (b && false) ≡ false
+      and-false true = refl
+      and-false false = refl
 
   pub stuck-is : (b : Bool) → s .clocks .count < i → b ≡ placed-at (s .moves .each) (s .moves .ranks) (i - 1 - s .clocks .count) (part .intervals) (part .ranks)
       → not b ≡ stuckb s part i

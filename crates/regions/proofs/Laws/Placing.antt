@@ -9,7 +9,7 @@ use mathlib.Core.List.{List, [], _∷_}
 use lib.ListN.{length, getD, take, length-take}
 use lib.Seq.{take-all}
 use lib.Dec.{eqb, leb}
-use borrow.Author.Tests.{eq-eqb, ne-eqb}
+use borrow.Author.Tests.{eq-eqb}
 use Rattle.regions.specs.Clocks.{at, allb, greatest}
 use Rattle.regions.specs.Row.{Row}
 use Rattle.regions.specs.Edge.{Edge, idle, Bounded}
@@ -25,9 +25,6 @@ use Rattle.regions.proofs.Laws.Move.{fits-permits, move-fits}
 
 -- one clock
 module _ (ms : List Move) (js ks : List ℕ) (a p z : ℕ) where
-  pub other-rank : (at ks z ≡ a → ⊥) → true ≡ clock-fits-at ms js ks a p z
-  other-rank n = rw (ne-eqb (at ks z) a n)
-
   pub its-rank : at ks z ≡ a → fits-at (getD ms z still) (at js z) p ≡ clock-fits-at ms js ks a p z
   its-rank e = rw (eq-eqb (at ks z) a e)
 

@@ -1,5 +1,5 @@
-use native.Mathlib.Omega.{arith}
 use Rattle.regions.proofs.Laws.Choice.{not-yet, stuck-is}
+use native.Mathlib.Omega.{arith}
 use borrow.Author.Needs.{needs}
 use Rattle.regions.proofs.choice.Search.is_stuck.Statement.{statement}
 use Rattle.regions.proofs.choice.Search.is_stuck.Tie as tie
@@ -10,6 +10,10 @@ use Rattle.regions.proofs.placing.Moves.are_placed.Reads as are-placed-
 -- src/choice.rt:94:17
 cast-n : tie.Need-cast-n
 cast-n c = search needs
+
+-- src/choice.rt:95:17
+add-if1 : tie.Need-add-if1
+add-if1 c = search needs
 
 -- src/choice.rt:96:13
 returns : tie.Need-returns
@@ -34,4 +38,4 @@ returns-2 c = let a = c .before .before .before .before .args in stuck-is (a .se
 pub is-stuck-spec : {M : Type 1} → statement M
 is-stuck-spec =
     tie.close
-    (tie.spec cast-n returns sub-are-placed sub-are-placed-2 are-placed-requires returns-2)
+    (tie.spec cast-n add-if1 returns sub-are-placed sub-are-placed-2 are-placed-requires returns-2)
