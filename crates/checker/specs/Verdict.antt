@@ -1,7 +1,7 @@
 -- The line of a verdict. Assumes nothing.
 use Prim.Native.String.{String}
-use Rattle.tables.specs.Answer.{accepted, refused}
-use Rattle.checker.specs.Program.{printed}
+use Rattle.table_files.specs.Answer.{accepted, refused}
+use Rattle.calls.specs.Program.{printed}
 use Rattle.checker.specs.declared.verdict.Verdict.{Verdict}
 use Rattle.checker.specs.declared.verdict.Verdict.the-variants.{Reached, Empty, Refused}
 

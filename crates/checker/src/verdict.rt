@@ -3,15 +3,15 @@ ghost use Prim.Native.Nat.{ℕ};
 ghost use mathlib.Core.Path.{_≡_};
 ghost use mathlib.Core.List.{List};
 ghost use lib.ListN.{take};
-ghost use Rattle.regions.specs.Checks.{same};
-ghost use Rattle.tables.specs.Bytes.{RN};
+ghost use Rattle.automata.specs.Checks.{same};
+ghost use Rattle.table_files.specs.Bytes.{RN};
 ghost use Rattle.tables.specs.Values.{answer-of};
-ghost use Rattle.checker.specs.Program.{printed, Printed};
+ghost use Rattle.calls.specs.Program.{printed, Printed};
 ghost use Rattle.checker.specs.Verdict.{line-of};
-use crate::region_list::check_regions;
-use crate::run::check_run;
+use region_lists::region_list::check_regions;
+use run_lists::run::check_run;
+use table_records::record::record;
 use tables::answer::Answer;
-use tables::record::record;
 
 // A final location is entered by a run of so many steps; no run enters one, by so many rows; or a refusal with its number and place.
 pub enum Verdict {

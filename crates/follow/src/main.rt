@@ -1,8 +1,8 @@
 // Document 01's examples of following, P5 to P8 and P10, run: each is a table and a row in bytes. Printed are the count of next rows and then, a
 // line for each, its intervals and its ranks.
 ghost use Prim.Native.Nat.{_≤_};
-use checker::follow::Followed;
-use checker::follow::follow;
+use following::follow::Followed;
+use following::follow::follow;
 
 // Prints bytes as numbers, with spaces between them.
 fn print_numbers(bytes: &[u8]) {

@@ -6,18 +6,18 @@ use mathlib.Core.Bool.{Bool, true, _&&_}
 use mathlib.Core.List.{List, [], _∷_, map}
 use lib.ListN.{length, getD, take}
 use lib.Dec.{eqb, leb, ltb}
-use Rattle.regions.specs.Clocks.{at, allb, greatest}
-use Rattle.regions.specs.Row.{IsRow}
-use Rattle.regions.specs.Rows.{isrowb}
-use Rattle.regions.specs.Edge.{Action, keep, constant, clock, Update, idle, BoundedBy, Bounded}
+use Rattle.automata.specs.Clocks.{at, allb, greatest}
+use Rattle.automata.specs.Row.{IsRow}
+use Rattle.automata.specs.Rows.{isrowb}
+use Rattle.automata.specs.Edge.{Action, keep, constant, clock, Update, idle, BoundedBy, Bounded}
 use Rattle.regions.specs.Values.{Few, bounds-of, row-of, update-of, edge-of}
 use Rattle.regions.specs.declared.region.Clocks.{Clocks}
 use Rattle.regions.specs.declared.region.Region.{Region}
 use Rattle.regions.specs.declared.edge.Update as update-code
 use Rattle.regions.specs.declared.edge.Edge as edge-code
-use Rattle.regions.proofs.Laws.Tests.{Says, eqb-law, leb-law, ltb-law, and-law, allb-law}
-use Rattle.regions.proofs.Laws.Lists.{at-greatest}
-use Rattle.regions.proofs.Laws.Rows.{isrowb-law}
+use Rattle.automata.proofs.Laws.Tests.{Says, eqb-law, leb-law, ltb-law, and-law, allb-law}
+use Rattle.automata.proofs.Laws.Lists.{at-greatest}
+use Rattle.automata.proofs.Laws.Rows.{isrowb-law}
 use Rattle.next_regions.specs.Examples.{unguarded}
 
 -- one clock's update keeps the bound rule

@@ -1,4 +1,5 @@
 // Prints the next regions of document 01's examples P5 to P8 and P10, each as its intervals and its ranks.
+use edge_walk::walk::next_region;
 use regions::edge::Action;
 use regions::edge::Edge;
 use regions::edge::Guard;
@@ -6,11 +7,10 @@ use regions::edge::Update;
 use regions::region::Clocks;
 use regions::region::Region;
 use regions::region::missing;
-use regions::walk::next_region;
 ghost use mathlib.Core.Path.{_≡_};
 ghost use Prim.Native.Nat.{_≤_};
-ghost use Rattle.regions.specs.Row.{IsRow};
-ghost use Rattle.regions.specs.Edge.{Bounded};
+ghost use Rattle.automata.specs.Row.{IsRow};
+ghost use Rattle.automata.specs.Edge.{Bounded};
 ghost use Rattle.regions.specs.Values.{Few, bounds-of, row-of, edge-of};
 ghost use Rattle.next_regions.specs.Examples.{unguarded};
 

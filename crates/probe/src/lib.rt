@@ -1,9 +1,9 @@
 // A test aid, not part of the product: following, as a function for a host program in Rust or C.
 ghost use mathlib.Core.Path.{_≡_};
-ghost use Rattle.checker.specs.Follow.{follow-answer, follow-buffer};
+ghost use Rattle.calls.specs.Follow.{follow-answer, follow-buffer};
 ghost use Rattle.probe.specs.Number.{number-of};
-use checker::follow::Followed;
-use checker::follow::follow;
+use following::follow::Followed;
+use following::follow::follow;
 
 // The count of rows written; or 2^63 plus the refusal's number times 65,536 plus its place.
 #[no_mangle]

@@ -5,10 +5,10 @@ use mathlib.Core.Option.{Option, none, some}
 use mathlib.Core.List.{List}
 use lib.ListN.{length, getD}
 use lib.Dec.{eqb, leb, ltb}
-use Rattle.regions.specs.Clocks.{at, each, allb, someb, count}
-use Rattle.regions.specs.Row.{Row}
-use Rattle.regions.specs.Edge.{Update, Edge, idle}
-use Rattle.regions.specs.Successors.{comparison-of}
+use Rattle.automata.specs.Clocks.{at, each, allb, someb, count}
+use Rattle.automata.specs.Row.{Row}
+use Rattle.automata.specs.Edge.{Update, Edge, idle}
+use Rattle.automata.specs.Successors.{comparison-of}
 use Rattle.regions.specs.Move.{move-of}
 use Rattle.regions.specs.declared.clock_move.Move.{Move}
 

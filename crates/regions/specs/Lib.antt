@@ -1,22 +1,6 @@
--- What a reader must believe: tables, runs, regions and closed lists, and the next rows as lists that compute.
-pub mod Comparison
-pub mod Clocks
-pub mod Row
-pub mod Point
-pub mod Wait
-pub mod Edge
-pub mod Automaton
-pub mod Run
-pub mod Closed
-pub mod Rows
-pub mod Successors
-pub mod Checks
-pub mod Meeting
-pub mod Walk
+-- What the code's values stand for, and one clock's move.
 pub mod Values
 pub mod Order
 pub mod Move
 pub mod Placing
-pub mod Choice
-pub mod Visit
 pub mod Image

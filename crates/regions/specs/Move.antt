@@ -3,11 +3,11 @@ use Prim.Native.Nat.{ℕ, _+_, _*_, _≤_, _<_}
 use mathlib.Core.Path.{_≡_}
 use mathlib.Core.Bool.{Bool}
 use mathlib.Core.List.{List}
-use Rattle.regions.specs.Comparison.{answer, some-answer}
-use Rattle.regions.specs.Clocks.{at}
-use Rattle.regions.specs.Row.{Row}
-use Rattle.regions.specs.Edge.{Action, keep, constant, clock, Update}
-use Rattle.regions.specs.Successors.{Rel, fixed, free, parts, relation, comparison-of, fits}
+use Rattle.automata.specs.Comparison.{answer, some-answer}
+use Rattle.automata.specs.Clocks.{at}
+use Rattle.automata.specs.Row.{Row}
+use Rattle.automata.specs.Edge.{Action, keep, constant, clock, Update}
+use Rattle.automata.specs.Successors.{Rel, fixed, free, parts, relation, comparison-of, fits}
 use Rattle.regions.specs.declared.clock_move.Move.{Move}
 
 -- the move of clock z against clock y plus up less down: what is taken away stands on the new interval's side

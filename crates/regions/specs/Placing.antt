@@ -5,10 +5,10 @@ use mathlib.Core.Bool.{Bool, not, _&&_, _||_}
 use mathlib.Core.List.{List}
 use lib.ListN.{length, getD, take}
 use lib.Dec.{eqb, leb}
-use Rattle.regions.specs.Clocks.{at, allb, greatest}
-use Rattle.regions.specs.Row.{Row}
-use Rattle.regions.specs.Edge.{Edge, idle}
-use Rattle.regions.specs.Successors.{least}
+use Rattle.automata.specs.Clocks.{at, allb, greatest}
+use Rattle.automata.specs.Row.{Row}
+use Rattle.automata.specs.Edge.{Edge, idle}
+use Rattle.automata.specs.Successors.{least}
 use Rattle.regions.specs.Move.{move-of, fits-at, permitsb}
 use Rattle.regions.specs.declared.clock_move.Move.{Move}
 use Rattle.regions.specs.declared.placing.Moves.{Moves}

@@ -4,9 +4,9 @@ use mathlib.Core.Bool.{Bool, true, false}
 use mathlib.Core.Option.{Option, none, some}
 use mathlib.Core.List.{List, [], _++_, map}
 use lib.ListN.{length, take, replicate}
-use Rattle.regions.specs.Clocks.{at}
-use Rattle.regions.specs.Row.{Row}
-use Rattle.regions.specs.Edge.{Guard, Action, keep, constant, clock, Update, Edge}
+use Rattle.automata.specs.Clocks.{at}
+use Rattle.automata.specs.Row.{Row}
+use Rattle.automata.specs.Edge.{Guard, Action, keep, constant, clock, Update, Edge}
 use Rattle.regions.specs.declared.region.Clocks as clocks-code
 use Rattle.regions.specs.declared.region.Region.{Region}
 use Rattle.regions.specs.declared.region.Sought.{Sought}

@@ -8,9 +8,9 @@ ghost use mathlib.Core.Path.{_≡_};
 ghost use mathlib.Core.Bool.{_&&_};
 ghost use Prim.Native.Nat.{_+_, _*_, _-_, _%_, _<_, _≤_};
 ghost use lib.Dec.{eqb, leb};
-ghost use Rattle.regions.specs.Comparison.{some-answer};
-ghost use Rattle.regions.specs.Edge.{BoundedBy};
-ghost use Rattle.regions.specs.Successors.{least};
+ghost use Rattle.automata.specs.Comparison.{some-answer};
+ghost use Rattle.automata.specs.Edge.{BoundedBy};
+ghost use Rattle.automata.specs.Successors.{least};
 ghost use Rattle.regions.specs.Values.{Few, bounds-of, row-of, update-of};
 ghost use Rattle.regions.specs.Move.{move-of, fits-at, permitsb, Stretch};
 

@@ -1,6 +1,6 @@
 // The five comparisons: one table, which guards, run values and region moves all ask.
 ghost use mathlib.Core.Path.{_≡_};
-ghost use Rattle.regions.specs.Comparison.{place, answer, some-answer, holds};
+ghost use Rattle.automata.specs.Comparison.{place, answer, some-answer, holds};
 ghost use Prim.Native.Nat.{compare};
 
 // Rows: 0 <, 1 ≤, 2 =, 3 ≥, 4 >. Columns: the answer for below, at and above.

@@ -6,10 +6,10 @@ use crate::region::Clocks;
 use crate::region::Region;
 ghost use mathlib.Core.Path.{_≡_};
 ghost use Prim.Native.Nat.{_*_, _≤_, _<_};
-ghost use Rattle.regions.specs.Clocks.{at};
-ghost use Rattle.regions.specs.Comparison.{holds};
-ghost use Rattle.regions.specs.Edge.{GuardsIn};
-ghost use Rattle.regions.specs.Successors.{guardsb};
+ghost use Rattle.automata.specs.Clocks.{at};
+ghost use Rattle.automata.specs.Comparison.{holds};
+ghost use Rattle.automata.specs.Edge.{GuardsIn};
+ghost use Rattle.automata.specs.Successors.{guardsb};
 ghost use Rattle.regions.specs.Values.{Few, bounds-of, row-of, edge-of};
 
 impl Region {

@@ -10,10 +10,10 @@ use crate::region::missing;
 ghost use mathlib.Core.Path.{_≡_};
 ghost use mathlib.Core.Bool.{true};
 ghost use Prim.Native.Nat.{ℕ, _+_, _≤_, _<_};
-ghost use Rattle.regions.specs.Clocks.{at, one-if, count};
-ghost use Rattle.regions.specs.Row.{IsRow};
-ghost use Rattle.regions.specs.Edge.{Bounded};
-ghost use Rattle.regions.specs.Successors.{guardsb, held, edge-rows};
+ghost use Rattle.automata.specs.Clocks.{at, one-if, count};
+ghost use Rattle.automata.specs.Row.{IsRow};
+ghost use Rattle.automata.specs.Edge.{Bounded};
+ghost use Rattle.automata.specs.Successors.{guardsb, held, edge-rows};
 ghost use Rattle.regions.specs.Values.{Few, bounds-of, row-of, padded, sought, found-of, update-of, edge-of};
 ghost use Rattle.regions.specs.Image.{settledb, deterministic, moved-interval, moved-rank, moved, marked, usedb, dense};
 

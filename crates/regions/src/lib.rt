@@ -8,5 +8,3 @@ pub mod wait; // the time successor
 pub mod clock_move; // one clock's move
 pub mod placing; // the places of the new parts among the old ones
 pub mod image; // the one next region of a deterministic edge
-pub mod choice; // the choices of an edge's walk
-pub mod walk; // the walk over an edge's next regions

@@ -4,9 +4,9 @@ use crate::region::Clocks;
 use crate::region::Region;
 ghost use mathlib.Core.Path.{_≡_};
 ghost use Prim.Native.Nat.{_+_, _*_, _≤_, _<_};
-ghost use Rattle.regions.specs.Clocks.{at};
-ghost use Rattle.regions.specs.Checks.{belowb};
-ghost use Rattle.regions.specs.Order.{numbers, shared};
+ghost use Rattle.automata.specs.Clocks.{at};
+ghost use Rattle.automata.specs.Checks.{belowb};
+ghost use Rattle.regions.specs.Order.{numbers, put, shared};
 ghost use Rattle.regions.specs.Values.{row-of};
 
 impl Region {
@@ -25,6 +25,22 @@ impl Region {
         }
         let z = i - 1 - n;
         self.ranks[z] as u16
+    }
+
+    // The region of n clocks with another number i, an interval or a rank.
+    pub fn with_number(self, n: usize, i: usize, number: u16) -> Region
+        requires { ⌜ n ≤ 4 ⌝ }
+        requires { ⌜ (0 < i) × (i < 1 + 2 * n) ⌝ }
+        requires { ⌜ (n < i → number ≤ 4) ⌝ }
+        ensures { λ r. ⌜ r ≡ put n self i number ⌝ }
+    {
+        let mut changed = self;
+        if i <= n {
+            changed.intervals[i - 1] = number;
+            return changed;
+        }
+        changed.ranks[i - 1 - n] = number as u8;
+        changed
     }
 
     // How many numbers the two regions share before they differ.

@@ -4,8 +4,8 @@ ghost use mathlib.Core.Bool.{cond};
 ghost use mathlib.Core.Option.{none};
 ghost use Prim.Native.Nat.{_≤_, _<_};
 ghost use lib.Dec.{eqb, ltb};
-ghost use Rattle.regions.specs.Clocks.{allb};
-ghost use Rattle.regions.specs.Rows.{openb, heldb, clockb, isrowb};
+ghost use Rattle.automata.specs.Clocks.{allb};
+ghost use Rattle.automata.specs.Rows.{openb, heldb, clockb, isrowb};
 ghost use Rattle.regions.specs.Values.{Few, bounds-of, row-of, sought};
 
 // The clocks and their bounds: one for each of the first `count`.

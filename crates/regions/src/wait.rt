@@ -6,9 +6,9 @@ use crate::region::missing;
 ghost use mathlib.Core.Path.{_≡_};
 ghost use Prim.Native.Nat.{_≤_, max};
 ghost use lib.ListN.{take};
-ghost use Rattle.regions.specs.Clocks.{greatest};
-ghost use Rattle.regions.specs.Row.{IsRow};
-ghost use Rattle.regions.specs.Wait.{evenb, entersb, some-evenb, growsb, leave-interval, leave-rank, left, arrive-interval, arrive-rank, arrived, wait};
+ghost use Rattle.automata.specs.Clocks.{greatest};
+ghost use Rattle.automata.specs.Row.{IsRow};
+ghost use Rattle.automata.specs.Wait.{evenb, entersb, some-evenb, growsb, leave-interval, leave-rank, left, arrive-interval, arrive-rank, arrived, wait};
 ghost use Rattle.regions.specs.Values.{Few, bounds-of, row-of, region-of, sought};
 
 // One clock, where some clock has a whole value ----------------------------------------------------------------------------------

@@ -1,2 +1,2 @@
--- The laws of reading and admission.
+-- The laws of the admission, as the code goes.
 pub mod Laws

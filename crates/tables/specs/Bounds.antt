@@ -3,11 +3,11 @@ use Prim.Native.Nat.{ℕ, _+_, _*_}
 use mathlib.Core.Bool.{Bool, cond, _&&_}
 use mathlib.Core.List.{List}
 use lib.Dec.{eqb}
-use Rattle.regions.specs.Edge.{Action, Edge}
-use Rattle.regions.specs.Checks.{every}
-use Rattle.tables.specs.Admission.{guard-bounded, constant-bounded, clock-bounded, each-update}
-use Rattle.tables.specs.Edge.{edge-at, after-edge, Stands}
-use Rattle.tables.specs.Skips.{skip, values, AllAt}
+use Rattle.automata.specs.Edge.{Action, Edge}
+use Rattle.automata.specs.Checks.{every}
+use Rattle.table_files.specs.Admission.{guard-bounded, constant-bounded, clock-bounded, each-update}
+use Rattle.table_records.specs.Edge.{edge-at, after-edge, Stands}
+use Rattle.table_records.specs.Skips.{skip, values, AllAt}
 
 -- the bound rule of an update, by its refusal's number
 abbrev pub rule-of : ℕ → List ℕ → ℕ → Action → Bool

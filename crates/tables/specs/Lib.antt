@@ -1,15 +1,3 @@
--- What a reader must believe: bytes and records, the table file, and the call that admits it.
-pub mod Bytes
-pub mod Answer
-pub mod Reading
-pub mod Records
-pub mod TableFile
-pub mod Admission
-pub mod Meaning
-pub mod TableBytes
+-- What the answers stand for, and the order in which the bound rules are tested.
 pub mod Values
-pub mod Scan
-pub mod Header
-pub mod Edge
-pub mod Skips
 pub mod Bounds

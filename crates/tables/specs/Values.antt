@@ -3,15 +3,15 @@ use Prim.Native.Nat.{ℕ}
 use mathlib.Core.Path.{_≡_}
 use mathlib.Core.List.{List}
 use lib.ListN.{length}
-use Rattle.regions.specs.Automaton.{Table}
+use Rattle.automata.specs.Automaton.{Table}
 use Rattle.regions.specs.Values.{bounds-of, Few}
-use Rattle.tables.specs.Answer.{Answer, accepted, refused}
-use Rattle.tables.specs.Reading.{Read, good, bad}
-use Rattle.tables.specs.Admission.{admitted, table-of}
-use Rattle.tables.specs.Meaning.{Passes}
+use Rattle.table_files.specs.Answer.{Answer, accepted, refused}
+use Rattle.table_files.specs.Reading.{Read, good, bad}
+use Rattle.table_files.specs.Admission.{admitted, table-of}
+use Rattle.table_files.specs.Meaning.{Passes}
 use Rattle.tables.specs.declared.answer.Answer as answer-code
-use Rattle.tables.specs.declared.admission.Head.{Head}
-use Rattle.tables.specs.declared.admission.Opened.{Opened}
+use Rattle.table_records.specs.declared.head.Head.{Head}
+use Rattle.table_records.specs.declared.head.Opened.{Opened}
 
 -- "For each answer that is an enum, a definition gives this paper's number and values for each of the enum's cases"
 abbrev pub answer-of : answer-code.Answer → Answer

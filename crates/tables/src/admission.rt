@@ -2,70 +2,28 @@
 ghost use mathlib.Core.Path.{_≡_};
 ghost use mathlib.Core.List.{List};
 ghost use Prim.Native.Nat.{ℕ, _<_, _≤_};
-ghost use Rattle.regions.specs.Row.{Row};
-ghost use Rattle.regions.specs.Automaton.{edge, final, Admitted};
+ghost use Rattle.automata.specs.Row.{Row};
+ghost use Rattle.automata.specs.Automaton.{edge, final, Admitted};
 ghost use Rattle.regions.specs.Values.{edge-of};
-ghost use Rattle.regions.specs.Run.{Reached};
-ghost use Rattle.regions.specs.Closed.{Closed, ExactlyOne};
-ghost use Rattle.tables.specs.Answer.{accepted};
-ghost use Rattle.tables.specs.Admission.{admission, table-of};
+ghost use Rattle.automata.specs.Run.{Reached};
+ghost use Rattle.automata.specs.Closed.{Closed, ExactlyOne};
+ghost use Rattle.table_files.specs.Answer.{accepted};
+ghost use Rattle.table_files.specs.Admission.{admission, table-of};
 ghost use Rattle.tables.specs.Values.{answer-of, Describes, Opens};
 ghost use Rattle.tables.specs.Bounds.{edge-start};
 use crate::answer::Answer;
 use crate::bounds::edges_bounded;
-use crate::decode::after_edge;
-use crate::decode::edge_from;
-use crate::edge::edges;
-use crate::header::header;
-use crate::location::locations;
-use crate::record::part;
 use regions::edge::Edge;
-use regions::region::Clocks;
-
-// What the records of an admitted table are read by: the clocks, how many locations and edges there are, and the initial location.
-pub struct Head {
-    pub clocks: Clocks,
-    pub locations: u8,
-    pub initial: u8,
-    pub edges: u16,
-}
-
-// Refusal number and place; number 0 is no refusal, and only then the head says something.
-pub struct Opened {
-    pub number: u8,
-    pub place: u16,
-    pub head: Head,
-}
-
-// A refusal, by its number and place.
-pub fn refusal(number: u8, place: u16) -> Opened
-    ensures { λ r. ⌜ (r .number ≡ number) × (r .place ≡ place) ⌝ }
-{
-    let bounds = [0u16; 4];
-    let clocks = Clocks { count: 0, bounds };
-    let head = Head {
-        clocks,
-        locations: 0,
-        initial: 0,
-        edges: 0,
-    };
-    Opened {
-        number,
-        place,
-        head,
-    }
-}
-
-// No refusal.
-pub fn fine(head: Head) -> Opened
-    ensures { λ r. ⌜ (r .number ≡ 0) × (r .head ≡ head) ⌝ }
-{
-    Opened {
-        number: 0,
-        place: 0,
-        head,
-    }
-}
+use table_records::decode::after_edge;
+use table_records::decode::edge_from;
+use table_records::edge::edges;
+use table_records::head::Head;
+use table_records::head::Opened;
+use table_records::head::fine;
+use table_records::head::refusal;
+use table_records::header::header;
+use table_records::location::locations;
+use table_records::record::part;
 
 // Refusals 1 to 6: the number and place of the first that applies, or 0 and what the table is read by.
 pub fn open(file: &[u8]) -> Opened

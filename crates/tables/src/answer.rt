@@ -1,6 +1,6 @@
 // What a call answers: accepted with a count, or refused with document 01's number and place.
 ghost use mathlib.Core.Path.{_≡_};
-ghost use Rattle.tables.specs.Answer.{packed};
+ghost use Rattle.table_files.specs.Answer.{packed};
 ghost use Rattle.tables.specs.Values.{answer-of};
 
 pub enum Answer {

@@ -2,22 +2,22 @@
 ghost use mathlib.Core.Path.{_≡_};
 ghost use Prim.Native.Nat.{_+_, _≤_};
 ghost use lib.ListN.{length, drop};
-ghost use Rattle.regions.specs.Clocks.{at};
-ghost use Rattle.regions.specs.Checks.{every};
+ghost use Rattle.automata.specs.Clocks.{at};
+ghost use Rattle.automata.specs.Checks.{every};
 ghost use Rattle.regions.specs.Values.{bounds-of, guard-of, action-of, edge-of};
-ghost use Rattle.tables.specs.Admission.{guard-bounded, constant-bounded, clock-bounded, each-update, edges-bounded};
-ghost use Rattle.tables.specs.Scan.{Scanned};
+ghost use Rattle.table_files.specs.Admission.{guard-bounded, constant-bounded, clock-bounded, each-update, edges-bounded};
+ghost use Rattle.table_records.specs.Scan.{Scanned};
 ghost use Rattle.tables.specs.Bounds.{rule-of, broken-rule, edges-at, AllStand};
-use crate::admission::Head;
-use crate::decode::after_edge;
-use crate::decode::edge_from;
-use crate::scan::Scan;
-use crate::scan::reached;
-use crate::scan::refused;
 use regions::edge::Action;
 use regions::edge::Edge;
 use regions::edge::Guard;
 use regions::region::Clocks;
+use table_records::decode::after_edge;
+use table_records::decode::edge_from;
+use table_records::head::Head;
+use table_records::scan::Scan;
+use table_records::scan::reached;
+use table_records::scan::refused;
 
 // The bound of a clock, 0 past the last.
 fn bound(clocks: Clocks, z: u8) -> u16

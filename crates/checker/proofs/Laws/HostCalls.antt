@@ -3,19 +3,19 @@ use Prim.Native.Nat.{ℕ, _<_}
 use mathlib.Core.Path.{_≡_, sym, ap, _∙_}
 use mathlib.Core.Logic.{_↔_}
 use mathlib.Core.List.{List}
-use Rattle.regions.specs.Row.{Row}
-use Rattle.regions.specs.Automaton.{Admitted}
-use Rattle.regions.specs.Run.{Reached}
-use Rattle.regions.specs.Closed.{Closed, ExactlyOne}
-use Rattle.tables.specs.Answer.{Answer, accepted, packed}
-use Rattle.tables.specs.Admission.{admission, table-of}
-use Rattle.tables.specs.Meaning.{Passes}
-use Rattle.tables.proofs.Laws.Admission.{admission-admitted}
-use Rattle.checker.specs.RunFile.{run-answer}
-use Rattle.checker.specs.Meaning.{RunListOf}
-use Rattle.checker.proofs.Laws.SmallAnswers.{admission-small, run-small}
-use Rattle.checker.proofs.Laws.Claims.{exactly-one}
-use Rattle.checker.proofs.Laws.RegionCall.{count-only}
+use Rattle.automata.specs.Row.{Row}
+use Rattle.automata.specs.Automaton.{Admitted}
+use Rattle.automata.specs.Run.{Reached}
+use Rattle.automata.specs.Closed.{Closed, ExactlyOne}
+use Rattle.table_files.specs.Answer.{Answer, accepted, packed}
+use Rattle.table_files.specs.Admission.{admission, table-of}
+use Rattle.table_files.specs.Meaning.{Passes}
+use Rattle.table_files.proofs.Laws.Admission.{admission-admitted}
+use Rattle.calls.specs.RunFile.{run-answer}
+use Rattle.calls.specs.Meaning.{RunListOf}
+use Rattle.calls.proofs.Laws.SmallAnswers.{admission-small, run-small}
+use Rattle.calls.proofs.Laws.Claims.{exactly-one}
+use Rattle.region_lists.proofs.Laws.RegionCall.{count-only}
 
 -- the admission: an admitted table has exactly one of the two
 pub admission-promises : (table : List ℕ) (r : ℕ) → r ≡ packed (admission table)

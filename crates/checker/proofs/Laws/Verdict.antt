@@ -8,15 +8,15 @@ use mathlib.Core.List.{List, [], _∷_}
 use lib.ListN.{length, take, drop}
 use lib.Dec.{leb, eqb}
 use borrow.Author.Tests.{le-leb, lt-leb}
-use Rattle.regions.specs.Checks.{same}
-use Rattle.tables.specs.Bytes.{RN}
-use Rattle.tables.specs.Answer.{Answer}
-use Rattle.tables.specs.Records.{part-at, record-at}
-use Rattle.tables.proofs.Laws.Records.{mark-short}
-use Rattle.checker.specs.RunFile.{run-answer}
-use Rattle.checker.specs.RegionFile.{ListAnswer}
-use Rattle.checker.specs.Program.{printed, PrintedFor, Printed}
-use Rattle.checker.proofs.Laws.Prefix.{printed-prefix}
+use Rattle.automata.specs.Checks.{same}
+use Rattle.table_files.specs.Bytes.{RN}
+use Rattle.table_files.specs.Answer.{Answer}
+use Rattle.table_files.specs.Records.{part-at, record-at}
+use Rattle.table_files.proofs.Laws.Records.{mark-short}
+use Rattle.calls.specs.RunFile.{run-answer}
+use Rattle.calls.specs.RegionFile.{ListAnswer}
+use Rattle.calls.specs.Program.{printed, PrintedFor, Printed}
+use Rattle.calls.proofs.Laws.Prefix.{printed-prefix}
 
 -- the record of two bytes is there just if the file begins with the mark
 pub marked : (file : List ℕ) → eqb (length (record-at file 0 2 RN)) 2 ≡ same RN (take 2 file)

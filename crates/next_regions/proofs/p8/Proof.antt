@@ -1,7 +1,7 @@
 use Rattle.next_regions.specs.Examples.{row}
 use mathlib.Core.List.{[], _∷_}
-use Rattle.regions.specs.Rows.{openb, heldb, clockb, isrowb}
-use Rattle.regions.specs.Clocks.{allb, someb}
+use Rattle.automata.specs.Rows.{openb, heldb, clockb, isrowb}
+use Rattle.automata.specs.Clocks.{allb, someb}
 use mathlib.Core.Path.{refl}
 use Rattle.next_regions.proofs.Cases.{asked}
 use borrow.Author.Needs.{needs}

@@ -7,7 +7,7 @@ use Rattle.next_regions.proofs.print_next.Reads as reads
 use Rattle.next_regions.proofs.print_next.Lts as lts
 use Rattle.next_regions.proofs.print_region.Reads as print-region-reads
 use Rattle.regions.proofs.region.missing.Reads as missing-reads
-use Rattle.regions.proofs.walk.next_region.Reads as next-region-reads
+use Rattle.edge_walk.proofs.walk.next_region.Reads as next-region-reads
 
 abbrev Inv-loop : tie.InvT-loop
 Inv-loop clocks from e floor₀ found₀ floor found = found ≤ 100

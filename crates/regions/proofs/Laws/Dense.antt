@@ -7,11 +7,11 @@ use mathlib.Core.Logic.{_↔_}
 use mathlib.Core.List.{List}
 use lib.Dec.{eqb}
 use lib.ListN.{length}
-use Rattle.regions.specs.Clocks.{at, count}
+use Rattle.automata.specs.Clocks.{at, count}
 use Rattle.regions.specs.Image.{usedb, dense-rank, dense-at, dense}
-use Rattle.regions.proofs.Laws.Tests.{Says, eqb-law, someb-law}
-use Rattle.regions.proofs.Laws.Lists.{length-each, at-each}
-use Rattle.regions.proofs.Laws.Count.{count-less, count-dense, count-le, count-order}
+use Rattle.automata.proofs.Laws.Tests.{Says, eqb-law, someb-law}
+use Rattle.automata.proofs.Laws.Lists.{length-each, at-each}
+use Rattle.automata.proofs.Laws.Count.{count-less, count-dense, count-le, count-order}
 
 module _ (ks : List ℕ) (n : ℕ) where
   used-law : (a : ℕ) → Says (usedb ks n a) ((w : ℕ) × (w < n) × (at ks w ≡ a))

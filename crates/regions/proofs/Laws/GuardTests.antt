@@ -7,15 +7,15 @@ use mathlib.Core.Bool.{Bool, true, false}
 use mathlib.Core.List.{List, _∷_, map}
 use lib.ListN.{length, getD, take, drop}
 use lib.Seq.{drop-cons}
-use Rattle.regions.specs.Clocks.{at}
-use Rattle.regions.specs.Comparison.{holds}
-use Rattle.regions.specs.Row.{Row}
-use Rattle.regions.specs.Edge.{GuardsIn}
-use Rattle.regions.specs.Successors.{guardsb}
+use Rattle.automata.specs.Clocks.{at}
+use Rattle.automata.specs.Comparison.{holds}
+use Rattle.automata.specs.Row.{Row}
+use Rattle.automata.specs.Edge.{GuardsIn}
+use Rattle.automata.specs.Successors.{guardsb}
 use Rattle.regions.specs.Values.{guard-of}
 use Rattle.regions.specs.declared.edge.Guard.{Guard}
 use Rattle.regions.proofs.Laws.Values.{getD-mapped, length-mapped, drop-out}
-use Rattle.regions.specs.Edge as spec
+use Rattle.automata.specs.Edge as spec
 
 -- what stands past the code's guards
 abbrev no-guard : Guard

@@ -6,17 +6,17 @@ use mathlib.Core.Bool.{Bool, true, false}
 use mathlib.Core.Logic.{inl, inr}
 use mathlib.Core.List.{List, [], _∷_, List·Memᴰ·head, List·Memᴰ·tail, List·Memᴰ·not-nil}
 use lib.ListN.{length}
-use Rattle.regions.specs.Clocks.{greatest, allb}
-use Rattle.regions.specs.Row.{Row, IsRow, Before, Below}
-use Rattle.regions.specs.Edge.{Edge, Bounded, Leads}
-use Rattle.regions.specs.Closed.{Mem, Ascends}
-use Rattle.regions.specs.Successors.{guardsb, held, edge-rows}
+use Rattle.automata.specs.Clocks.{greatest, allb}
+use Rattle.automata.specs.Row.{Row, IsRow, Before, Below}
+use Rattle.automata.specs.Edge.{Edge, Bounded, Leads}
+use Rattle.automata.specs.Closed.{Mem, Ascends}
+use Rattle.automata.specs.Successors.{guardsb, held, edge-rows}
 use Rattle.regions.specs.Image.{deterministic, reaches-at, moved, image}
-use Rattle.regions.proofs.Laws.Tests.{never}
-use Rattle.regions.proofs.Laws.Guards.{guards-law}
-use Rattle.regions.proofs.Laws.Unique.{row-unique}
-use Rattle.regions.proofs.Laws.Points.{some-point}
-use Rattle.regions.proofs.Laws.Successors.{edge-rows-law, edge-rows-ascend}
+use Rattle.automata.proofs.Laws.Tests.{never}
+use Rattle.automata.proofs.Laws.Guards.{guards-law}
+use Rattle.automata.proofs.Laws.Unique.{row-unique}
+use Rattle.automata.proofs.Laws.Points.{some-point}
+use Rattle.automata.proofs.Laws.Successors.{edge-rows-law, edge-rows-ascend}
 use Rattle.regions.proofs.Laws.Landing.{landing, lands-somewhere, lands-reached, lands-row, lands-in}
 
 -- lists of one row, and of none -------------------------------------------------------------------------------------------------------

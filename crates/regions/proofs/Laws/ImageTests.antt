@@ -10,8 +10,8 @@ use lib.ListN.{length, getD, set, replicate}
 use lib.Seq.{getD-set-same, getD-set-other}
 use lib.Dec.{eqb}
 use borrow.Author.Tests.{eq-eqb, ne-eqb, le-ltb, lt-ltb}
-use Rattle.regions.specs.Clocks.{at, each, someb, one-if, count}
-use Rattle.regions.specs.Edge.{idle}
+use Rattle.automata.specs.Clocks.{at, each, someb, one-if, count}
+use Rattle.automata.specs.Edge.{idle}
 use Rattle.regions.specs.Values.{padded, update-of, edge-of}
 use Rattle.regions.specs.Image.{settledb, settled-at, moved-interval, moved-rank, marked, usedb, dense-rank, dense-at, dense}
 use Rattle.regions.specs.declared.edge.Action as action-code

@@ -6,17 +6,17 @@ use mathlib.Core.Bool.{true}
 use mathlib.Core.Logic.{_↔_}
 use mathlib.Core.List.{List}
 use lib.ListN.{length, getD}
-use Rattle.regions.specs.Clocks.{at, greatest, each, allb}
-use Rattle.regions.specs.Row.{Row, Open, IsRow}
-use Rattle.regions.specs.Point.{Within, part, Contains}
-use Rattle.regions.specs.Edge.{Update, Edge, idle, AllowedBy, Allowed, Bounded}
+use Rattle.automata.specs.Clocks.{at, greatest, each, allb}
+use Rattle.automata.specs.Row.{Row, Open, IsRow}
+use Rattle.automata.specs.Point.{Within, part, Contains}
+use Rattle.automata.specs.Edge.{Update, Edge, idle, AllowedBy, Allowed, Bounded}
 use Rattle.regions.specs.Image.{settled-at, deterministic, edge-move, reaches-at, interval-at, rank-at, dense}
-use Rattle.regions.proofs.Laws.Order.{Tri, is-lt, is-eq, is-gt, tri}
-use Rattle.regions.proofs.Laws.Tests.{Says, leb-law, allb-law}
-use Rattle.regions.proofs.Laws.Lists.{length-each, at-each, collect}
-use Rattle.regions.proofs.Laws.Clocks.{within-range}
-use Rattle.regions.proofs.Laws.Positions.{Ascending}
-use Rattle.regions.proofs.Laws.Classes.{Classes, classes}
+use Rattle.automata.proofs.Laws.Order.{Tri, is-lt, is-eq, is-gt, tri}
+use Rattle.automata.proofs.Laws.Tests.{Says, leb-law, allb-law}
+use Rattle.automata.proofs.Laws.Lists.{length-each, at-each, collect}
+use Rattle.automata.proofs.Laws.Clocks.{within-range}
+use Rattle.automata.proofs.Laws.Positions.{Ascending}
+use Rattle.automata.proofs.Laws.Classes.{Classes, classes}
 use Rattle.regions.proofs.Laws.Dense.{length-dense, dense-zero, dense-positive, dense-order, dense-none-missing}
 use Rattle.regions.proofs.Laws.Origin.{Comes, open-rank, shut-rank, some-value, no-value, value-within, value-part, value-open}
 use Rattle.regions.proofs.Laws.Settled.{Source, source}

@@ -4,7 +4,7 @@ use native.Mathlib.Nat.{add-zero}
 use native.Mathlib.Omega.{arith}
 use mathlib.Core.Path.{_≡_, ap, _∙_}
 use mathlib.Core.Bool.{Bool, true, false}
-use Rattle.regions.specs.Successors.{least}
+use Rattle.automata.specs.Successors.{least}
 
 module _ (t : ℕ → Bool) (end : ℕ) where
   pub least-here : (k : ℕ) → k < end → t k ≡ true → least t (end - k) k ≡ k

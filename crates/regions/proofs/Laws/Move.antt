@@ -10,11 +10,11 @@ use lib.Dec.{eqb, leb}
 use lib.ListN.{length-take}
 use lib.Seq.{getD-take}
 use borrow.Author.Tests.{ne-eqb, lt-leb}
-use Rattle.regions.specs.Comparison.{answer, holds, some-answer}
-use Rattle.regions.specs.Clocks.{at}
-use Rattle.regions.specs.Row.{Row}
-use Rattle.regions.specs.Edge.{Action, keep, constant, clock, Update, BoundedBy}
-use Rattle.regions.specs.Successors.{Rel, fixed, free, parts, relation, rel, comparison-of, fits}
+use Rattle.automata.specs.Comparison.{answer, holds, some-answer}
+use Rattle.automata.specs.Clocks.{at}
+use Rattle.automata.specs.Row.{Row}
+use Rattle.automata.specs.Edge.{Action, keep, constant, clock, Update, BoundedBy}
+use Rattle.automata.specs.Successors.{Rel, fixed, free, parts, relation, rel, comparison-of, fits}
 use Rattle.regions.specs.Move.{move-of, rel-of, fits-at, fits-somewhere, permitsb, Stretch}
 use Rattle.regions.specs.Values.{bounds-of, row-of, update-of}
 use Rattle.regions.specs.declared.clock_move.Move.{Move}
@@ -22,8 +22,8 @@ use Rattle.regions.specs.declared.region.Clocks.{Clocks}
 use Rattle.regions.specs.declared.region.Region.{Region}
 use Rattle.regions.specs.declared.edge.Action as action-code
 use Rattle.regions.specs.declared.edge.Update as update-code
-use Rattle.regions.proofs.Laws.Order.{compare-lt, compare-gt}
-use Rattle.regions.proofs.Laws.Tests.{fails, and-law, eqb-law, leb-law}
+use Rattle.automata.proofs.Laws.Order.{compare-lt, compare-gt}
+use Rattle.automata.proofs.Laws.Tests.{fails, and-law, eqb-law, leb-law}
 
 -- the cases of a move -----------------------------------------------------------------------------------------------------------------
 

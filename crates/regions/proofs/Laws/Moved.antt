@@ -8,10 +8,10 @@ use mathlib.Core.List.{List, [], _∷_}
 use lib.ListN.{length, getD, take, set}
 use lib.Dec.{eqb, ltb}
 use borrow.Author.Tests.{lt-leb, le-leb}
-use Rattle.regions.specs.Clocks.{at, each, allb}
-use Rattle.regions.specs.Row.{Row, IsRow}
-use Rattle.regions.specs.Edge.{Action, keep, constant, clock, Update, Edge, idle, Bounded}
-use Rattle.regions.specs.Successors.{guardsb, held, edge-rows}
+use Rattle.automata.specs.Clocks.{at, each, allb}
+use Rattle.automata.specs.Row.{Row, IsRow}
+use Rattle.automata.specs.Edge.{Action, keep, constant, clock, Update, Edge, idle, Bounded}
+use Rattle.automata.specs.Successors.{guardsb, held, edge-rows}
 use Rattle.regions.specs.Move.{move-of}
 use Rattle.regions.specs.Values.{bounds-of, row-of, padded, sought, found-of, update-of, edge-of}
 use Rattle.regions.specs.Image.{deterministic, reachesb, moved-interval, moved-rank, edge-move, reaches-at, interval-at, rank-at, moved, dense, ranked, image}
@@ -20,9 +20,9 @@ use Rattle.regions.specs.declared.region.Region.{Region}
 use Rattle.regions.specs.declared.region.Sought.{Sought}
 use Rattle.regions.specs.declared.edge.Edge as edge-code
 use Rattle.regions.specs.declared.clock_move.Move.{Move}
-use Rattle.regions.proofs.Laws.Tests.{never}
-use Rattle.regions.proofs.Laws.Lists.{length-each, at-each}
-use Rattle.regions.proofs.Laws.Ranks.{rank-le}
+use Rattle.automata.proofs.Laws.Tests.{never}
+use Rattle.automata.proofs.Laws.Lists.{length-each, at-each}
+use Rattle.automata.proofs.Laws.Ranks.{rank-le}
 use Rattle.regions.proofs.Laws.Values.{length-bounds, allb-more, allb-fails, padded-next, at-padded, take-padded}
 use Rattle.regions.proofs.Laws.Moves.{no-update, its-update}
 use Rattle.regions.proofs.Laws.Dense.{length-dense}

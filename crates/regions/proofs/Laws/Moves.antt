@@ -8,8 +8,8 @@ use mathlib.Core.List.{List}
 use lib.ListN.{length, getD, set}
 use lib.Seq.{getD-set-same, getD-set-other}
 use borrow.Author.Tests.{lt-leb, le-leb}
-use Rattle.regions.specs.Edge.{idle, BoundedBy, Bounded}
-use Rattle.regions.specs.Successors.{least}
+use Rattle.automata.specs.Edge.{idle, BoundedBy, Bounded}
+use Rattle.automata.specs.Successors.{least}
 use Rattle.regions.specs.Values.{bounds-of, row-of, update-of, edge-of}
 use Rattle.regions.specs.Move.{move-of, permitsb}
 use Rattle.regions.specs.Placing.{still, some-permitted}

@@ -9,9 +9,9 @@ use lib.ListN.{length, take, drop, length-append, List·getD-append}
 use lib.Dec.{eqb, ltb}
 use lib.Seq.{drop-cons, getD-append-add}
 use borrow.Author.Tests.{eq-eqb, ne-eqb, eqb-true, le-ltb}
-use Rattle.regions.specs.Clocks.{at}
-use Rattle.regions.specs.Row.{Row}
-use Rattle.regions.specs.Checks.{same, beforeb, same-row, belowb}
+use Rattle.automata.specs.Clocks.{at}
+use Rattle.automata.specs.Row.{Row}
+use Rattle.automata.specs.Checks.{same, beforeb, same-row, belowb}
 use Rattle.regions.specs.Order.{numbers, shared}
 use Rattle.regions.specs.Values.{row-of}
 use Rattle.regions.specs.declared.region.Region.{Region}

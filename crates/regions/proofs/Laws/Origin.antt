@@ -7,12 +7,12 @@ use mathlib.Core.Path.{_≡_, refl, ap}
 use mathlib.Core.Bool.{_&&_}
 use mathlib.Core.Logic.{inl, inr}
 use lib.Dec.{eqb, ltb}
-use Rattle.regions.specs.Row.{Open}
-use Rattle.regions.specs.Point.{Within, part}
+use Rattle.automata.specs.Row.{Open}
+use Rattle.automata.specs.Point.{Within, part}
 use Rattle.regions.specs.Image.{moved-interval, moved-rank}
 use Rattle.regions.specs.declared.clock_move.Move.{Move}
-use Rattle.regions.proofs.Laws.Tests.{Says, fails, says, and-law, eqb-law, ltb-law}
-use Rattle.regions.proofs.Laws.Sides.{Sides}
+use Rattle.automata.proofs.Laws.Tests.{Says, fails, says, and-law, eqb-law, ltb-law}
+use Rattle.automata.proofs.Laws.Sides.{Sides}
 
 -- a clock of bound b moves by m: its new value, with down, is an old value in an old interval, with up
 pub record Origin (D b : ℕ) (m : Move) : Type 0 where

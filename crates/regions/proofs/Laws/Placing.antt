@@ -10,17 +10,17 @@ use lib.ListN.{length, getD, take, length-take}
 use lib.Seq.{take-all}
 use lib.Dec.{eqb, leb}
 use borrow.Author.Tests.{eq-eqb}
-use Rattle.regions.specs.Clocks.{at, allb, greatest}
-use Rattle.regions.specs.Row.{Row}
-use Rattle.regions.specs.Edge.{Edge, idle, Bounded}
-use Rattle.regions.specs.Successors.{clock-fits, rank-fits, least, greedy, placedb}
+use Rattle.automata.specs.Clocks.{at, allb, greatest}
+use Rattle.automata.specs.Row.{Row}
+use Rattle.automata.specs.Edge.{Edge, idle, Bounded}
+use Rattle.automata.specs.Successors.{clock-fits, rank-fits, least, greedy, placedb}
 use Rattle.regions.specs.Move.{move-of, fits-at, permitsb}
 use Rattle.regions.specs.Placing.{still, clock-fits-at, rank-fits-at, greedy-at, placed-at}
 use Rattle.regions.specs.declared.clock_move.Move.{Move}
-use Rattle.regions.proofs.Laws.Tests.{Says, and-law, leb-law, allb-law}
-use Rattle.regions.proofs.Laws.Lists.{at-greatest}
+use Rattle.automata.proofs.Laws.Tests.{Says, and-law, leb-law, allb-law}
+use Rattle.automata.proofs.Laws.Lists.{at-greatest}
 use Rattle.regions.proofs.Laws.Values.{at-take}
-use Rattle.regions.proofs.Laws.Leads.{Least, least-is}
+use Rattle.automata.proofs.Laws.Leads.{Least, least-is}
 use Rattle.regions.proofs.Laws.Move.{fits-permits, move-fits}
 
 -- one clock

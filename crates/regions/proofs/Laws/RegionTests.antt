@@ -6,9 +6,9 @@ use mathlib.Core.Bool.{Bool, true, false, cond, not, _&&_, _||_}
 use lib.ListN.{length}
 use lib.Dec.{eqb, leb, ltb}
 use borrow.Author.Tests.{eq-eqb, lt-ltb, le-ltb, lt-leb, le-leb}
-use Rattle.regions.specs.Clocks.{at, allb, someb}
-use Rattle.regions.specs.Row.{Row}
-use Rattle.regions.specs.Rows.{openb, heldb, clockb, isrowb}
+use Rattle.automata.specs.Clocks.{at, allb, someb}
+use Rattle.automata.specs.Row.{Row}
+use Rattle.automata.specs.Rows.{openb, heldb, clockb, isrowb}
 use Rattle.regions.specs.Values.{bounds-of, row-of}
 use Rattle.regions.specs.declared.region.Clocks.{Clocks}
 use Rattle.regions.specs.declared.region.Region.{Region}

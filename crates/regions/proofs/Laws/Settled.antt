@@ -7,20 +7,20 @@ use mathlib.Core.Logic.{_↔_}
 use mathlib.Core.List.{List}
 use lib.ListN.{length}
 use borrow.Author.Tests.{eqb-true}
-use Rattle.regions.specs.Comparison.{answer, holds}
-use Rattle.regions.specs.Clocks.{at, greatest}
-use Rattle.regions.specs.Row.{Row, Open, IsRow}
-use Rattle.regions.specs.Point.{part, Contains}
-use Rattle.regions.specs.Edge.{Action, keep, constant, clock, Update, AllowedBy, BoundedBy}
-use Rattle.regions.specs.Successors.{comparison-of}
+use Rattle.automata.specs.Comparison.{answer, holds}
+use Rattle.automata.specs.Clocks.{at, greatest}
+use Rattle.automata.specs.Row.{Row, Open, IsRow}
+use Rattle.automata.specs.Point.{part, Contains}
+use Rattle.automata.specs.Edge.{Action, keep, constant, clock, Update, AllowedBy, BoundedBy}
+use Rattle.automata.specs.Successors.{comparison-of}
 use Rattle.regions.specs.Move.{move-of}
 use Rattle.regions.specs.Image.{settledb}
 use Rattle.regions.specs.declared.clock_move.Move.{Move}
-use Rattle.regions.proofs.Laws.Order.{Tri, is-lt, is-eq, is-gt, tri}
-use Rattle.regions.proofs.Laws.Tests.{never}
-use Rattle.regions.proofs.Laws.Lists.{at-greatest}
-use Rattle.regions.proofs.Laws.Sides.{Sides, sides, whole}
-use Rattle.regions.proofs.Laws.Classes.{Classes}
+use Rattle.automata.proofs.Laws.Order.{Tri, is-lt, is-eq, is-gt, tri}
+use Rattle.automata.proofs.Laws.Tests.{never}
+use Rattle.automata.proofs.Laws.Lists.{at-greatest}
+use Rattle.automata.proofs.Laws.Sides.{Sides, sides, whole}
+use Rattle.automata.proofs.Laws.Classes.{Classes}
 use Rattle.regions.proofs.Laws.Origin.{Origin, Comes}
 
 -- '=' allows what is equal

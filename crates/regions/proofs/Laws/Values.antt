@@ -11,12 +11,12 @@ use mathlib.Core.List.{List, [], _∷_, _++_, map, append-assoc}
 use lib.ListN.{length, getD, take, drop, set, replicate, length-map, length-append, length-replicate}
 use lib.Dec.{eqb}
 use lib.Seq.{drop-nil, getD-take, length-take-le, set-at, take-at, drop-cons, ext-getD}
-use Rattle.regions.specs.Clocks.{at, each, allb, someb}
-use Rattle.regions.specs.Row.{Row}
-use Rattle.regions.specs.Checks.{every, any}
+use Rattle.automata.specs.Clocks.{at, each, allb, someb}
+use Rattle.automata.specs.Row.{Row}
+use Rattle.automata.specs.Checks.{every, any}
 use Rattle.regions.specs.Values.{bounds-of, row-of, padded, region-of, sought, found-of}
 use Rattle.regions.specs.declared.region.Clocks.{Clocks}
-use Rattle.regions.proofs.Laws.Lists.{zeros, length-each}
+use Rattle.automata.proofs.Laws.Lists.{zeros, length-each}
 
 -- the first n clocks ------------------------------------------------------------------------------------------------------------------
 

@@ -10,15 +10,15 @@ use lib.ListN.{length, take, set}
 use lib.Seq.{take-suc}
 use lib.Dec.{eqb, leb, ltb}
 use borrow.Author.Tests.{lt-ltb, le-ltb, lt-leb, le-leb}
-use Rattle.regions.specs.Clocks.{at, each, someb, greatest}
-use Rattle.regions.specs.Row.{Row, IsRow}
-use Rattle.regions.specs.Wait.{evenb, entersb, growsb, leave-interval, leave-rank, left, arrive-interval, arrive-rank, arrived, wait}
+use Rattle.automata.specs.Clocks.{at, each, someb, greatest}
+use Rattle.automata.specs.Row.{Row, IsRow}
+use Rattle.automata.specs.Wait.{evenb, entersb, growsb, leave-interval, leave-rank, left, arrive-interval, arrive-rank, arrived, wait}
 use Rattle.regions.specs.Values.{bounds-of, row-of, padded, region-of, sought, found-of}
 use Rattle.regions.specs.declared.region.Clocks.{Clocks}
 use Rattle.regions.specs.declared.region.Region.{Region}
 use Rattle.regions.proofs.Laws.Values.{at-take, length-first, someb-more, someb-found, someb-end, padded-next, found-sought}
-use Rattle.regions.proofs.Laws.Ranks.{rank-le}
-use Rattle.regions.proofs.Laws.Waiting.{wait-row}
+use Rattle.automata.proofs.Laws.Ranks.{rank-le}
+use Rattle.automata.proofs.Laws.Waiting.{wait-row}
 
 -- at its bound a clock does not enter an open interval
 pub enters-not : (c j : ℕ) → j ≡ 2 * c → false ≡ entersb c j

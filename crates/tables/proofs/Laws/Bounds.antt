@@ -6,25 +6,25 @@ use mathlib.Core.Bool.{Bool, true, false, cond, _&&_}
 use mathlib.Core.List.{List, [], _∷_}
 use lib.ListN.{length, take, drop, getD, length-take, List·getD-eq-default, List·getD-map}
 use lib.Seq.{length-take-le, getD-take}
-use Rattle.regions.specs.Clocks.{at, allb}
-use Rattle.regions.specs.Edge.{Action, Edge, idle}
-use Rattle.regions.specs.Rows.{from}
-use Rattle.regions.specs.Checks.{every}
+use Rattle.automata.specs.Clocks.{at, allb}
+use Rattle.automata.specs.Edge.{Action, Edge, idle}
+use Rattle.automata.specs.Rows.{from}
+use Rattle.automata.specs.Checks.{every}
 use Rattle.regions.specs.Values.{bounds-of, guard-of, action-of, update-of, edge-of}
 use Rattle.regions.specs.declared.region.Clocks as clocks-code
 use Rattle.regions.specs.declared.edge.Guard as guard-code
 use Rattle.regions.specs.declared.edge.Action as action-code
 use Rattle.regions.specs.declared.edge.Update as update-code
 use Rattle.regions.specs.declared.edge.Edge as edge-code
-use Rattle.tables.specs.Reading.{Read, bad, carry, require}
-use Rattle.tables.specs.Admission.{guard-bounded, constant-bounded, clock-bounded, each-update, edges-bounded}
-use Rattle.tables.specs.Scan.{Scanned}
-use Rattle.tables.specs.Edge.{edge-at, after-edge, Stands}
-use Rattle.tables.specs.Skips.{values, AllAt}
+use Rattle.table_files.specs.Reading.{Read, bad, carry, require}
+use Rattle.table_files.specs.Admission.{guard-bounded, constant-bounded, clock-bounded, each-update, edges-bounded}
+use Rattle.table_records.specs.Scan.{Scanned}
+use Rattle.table_records.specs.Edge.{edge-at, after-edge, Stands}
+use Rattle.table_records.specs.Skips.{values, AllAt}
 use Rattle.tables.specs.Bounds.{broken-rule, edges-at, AllStand}
-use Rattle.tables.specs.declared.scan.Scan.{Scan}
-use Rattle.tables.proofs.Laws.Scan.{refusal, success}
-use Rattle.tables.proofs.Laws.Loops.{every-same, every-taken, every-map, allb-every}
+use Rattle.table_records.specs.declared.scan.Scan.{Scan}
+use Rattle.table_records.proofs.Laws.Scan.{refusal, success}
+use Rattle.table_records.proofs.Laws.Loops.{every-same, every-taken, every-map, allb-every}
 
 -- one clock's bound
 module _ (k : clocks-code.Clocks) (z : ℕ) where
@@ -58,7 +58,7 @@ module _ (k : clocks-code.Clocks) (e : edge-code.Edge) where
       ap (λ (n : ℕ). allb n (λ (z : ℕ). test (bounds-of k) z (getD (edge-of (k .count) e .updates) z idle .action))) (length-take-le (k .count) (k .bounds) h)
       ∙ allb-every (k .count) (λ (z : ℕ). test (bounds-of k) z (getD (edge-of (k .count) e .updates) z idle .action))
       ∙ every-same _ _ (k .count)
-      (λ z l. ap (λ (u : Rattle.regions.specs.Edge.Update). test (bounds-of k) z (u .action))
+      (λ z l. ap (λ (u : Rattle.automata.specs.Edge.Update). test (bounds-of k) z (u .action))
       (List·getD-map update-of (take (k .count) (e .updates)) z no-update ∙ ap update-of (getD-take (k .count) (e .updates) z no-update l)))
 
 -- the rule that an edge breaks -----------------------------------------------------------------------------------------------

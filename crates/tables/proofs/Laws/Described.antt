@@ -5,24 +5,24 @@ use mathlib.Core.Bool.{Bool, false}
 use mathlib.Core.List.{List}
 use lib.ListN.{length, drop, getD}
 use lib.Dec.{eqb}
-use Rattle.regions.specs.Clocks.{at}
-use Rattle.regions.specs.Edge.{Edge}
-use Rattle.regions.specs.Automaton.{Table, edge, blank, final}
-use Rattle.tables.specs.Reading.{good}
-use Rattle.tables.specs.Records.{part-at}
-use Rattle.tables.specs.TableFile.{location, edge-record, table-file}
-use Rattle.tables.specs.Admission.{admitted, table-of}
+use Rattle.automata.specs.Clocks.{at}
+use Rattle.automata.specs.Edge.{Edge}
+use Rattle.automata.specs.Automaton.{Table, edge, blank, final}
+use Rattle.table_files.specs.Reading.{good}
+use Rattle.table_files.specs.Records.{part-at}
+use Rattle.table_files.specs.TableFile.{location, edge-record, table-file}
+use Rattle.table_files.specs.Admission.{admitted, table-of}
 use Rattle.tables.specs.Values.{Describes}
-use Rattle.tables.specs.Edge.{edge-at, after-edge, Stands}
+use Rattle.table_records.specs.Edge.{edge-at, after-edge, Stands}
 use Rattle.tables.specs.Bounds.{edge-start}
-use Rattle.tables.specs.declared.admission.Head.{Head}
-use Rattle.tables.proofs.Laws.Reading.{parts}
-use Rattle.tables.proofs.Laws.Parts.{part-there}
-use Rattle.tables.proofs.Laws.Admission.{admission-read}
-use Rattle.tables.proofs.Laws.Skips.{All, all-read, length-values, value-th, stands-th, skip-threes}
-use Rattle.tables.proofs.Laws.Header.{header-left}
-use Rattle.tables.proofs.Laws.Locations.{final-at, location-one}
-use Rattle.tables.proofs.Laws.Edges.{edge-one}
+use Rattle.table_records.specs.declared.head.Head.{Head}
+use Rattle.table_files.proofs.Laws.Reading.{parts}
+use Rattle.table_records.proofs.Laws.Parts.{part-there}
+use Rattle.table_files.proofs.Laws.Admission.{admission-read}
+use Rattle.table_records.proofs.Laws.Skips.{All, all-read, length-values, value-th, stands-th, skip-threes}
+use Rattle.table_records.proofs.Laws.Header.{header-left}
+use Rattle.table_records.proofs.Laws.Locations.{final-at, location-one}
+use Rattle.table_records.proofs.Laws.Edges.{edge-one}
 
 -- what was read of the locations and of the edges
 record Reads (file : List ℕ) (T : Table) (n L E : ℕ) : Type 0 where

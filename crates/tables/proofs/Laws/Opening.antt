@@ -6,26 +6,26 @@ use mathlib.Core.Bool.{Bool}
 use mathlib.Core.List.{List, [], _∷_}
 use lib.ListN.{length, drop, length-drop, drop-of-length-le}
 use lib.Seq.{drop-length}
-use Rattle.regions.specs.Edge.{Edge}
-use Rattle.regions.specs.Automaton.{Table}
+use Rattle.automata.specs.Edge.{Edge}
+use Rattle.automata.specs.Automaton.{Table}
 use Rattle.regions.specs.Values.{bounds-of, Few}
-use Rattle.tables.specs.Reading.{Read, good, bad, Reader, carry, end, records}
-use Rattle.tables.specs.TableFile.{Header, header, location, edge-record, table-file}
-use Rattle.tables.specs.Admission.{edges-bounded, admitted}
+use Rattle.table_files.specs.Reading.{Read, good, bad, Reader, carry, end, records}
+use Rattle.table_files.specs.TableFile.{Header, header, location, edge-record, table-file}
+use Rattle.table_files.specs.Admission.{edges-bounded, admitted}
 use Rattle.tables.specs.Values.{Describes, Opens}
-use Rattle.tables.specs.Scan.{Scanned}
-use Rattle.tables.specs.Header.{HeadOf, Headed}
-use Rattle.tables.specs.Edge.{edge-at, after-edge, Stands}
+use Rattle.table_records.specs.Scan.{Scanned}
+use Rattle.table_records.specs.Header.{HeadOf, Headed}
+use Rattle.table_records.specs.Edge.{edge-at, after-edge, Stands}
 use Rattle.tables.specs.Bounds.{edges-at, AllStand}
-use Rattle.tables.specs.declared.scan.Scan.{Scan}
-use Rattle.tables.specs.declared.admission.Head.{Head}
-use Rattle.tables.specs.declared.admission.Opened.{Opened}
-use Rattle.tables.proofs.Laws.Reading.{goes}
-use Rattle.tables.proofs.Laws.Tables.{HeaderIn, header-in}
-use Rattle.tables.proofs.Laws.Admission.{read-admission}
-use Rattle.tables.proofs.Laws.Scan.{has-read, was-refused}
-use Rattle.tables.proofs.Laws.Skips.{All, all-read, length-values}
-use Rattle.tables.proofs.Laws.Edges.{edge-one}
+use Rattle.table_records.specs.declared.scan.Scan.{Scan}
+use Rattle.table_records.specs.declared.head.Head.{Head}
+use Rattle.table_records.specs.declared.head.Opened.{Opened}
+use Rattle.table_files.proofs.Laws.Reading.{goes}
+use Rattle.table_files.proofs.Laws.Tables.{HeaderIn, header-in}
+use Rattle.table_files.proofs.Laws.Admission.{read-admission}
+use Rattle.table_records.proofs.Laws.Scan.{has-read, was-refused}
+use Rattle.table_records.proofs.Laws.Skips.{All, all-read, length-values}
+use Rattle.table_records.proofs.Laws.Edges.{edge-one}
 
 -- a reading that is refused refuses what comes after it
 pub stopped : {A B : Type 0} (r : Read A) (next : A → Reader B) {number place : ℕ} → r ≡ bad number place → carry r next ≡ bad number place

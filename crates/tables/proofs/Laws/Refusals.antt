@@ -6,21 +6,21 @@ use mathlib.Core.Bool.{Bool, true, false, cond}
 use mathlib.Core.List.{List, [], _∷_}
 use lib.ListN.{length, take, drop}
 use lib.Dec.{leb}
-use Rattle.regions.specs.Row.{Row}
-use Rattle.regions.specs.Edge.{Edge}
-use Rattle.regions.specs.Automaton.{Table, Admitted}
-use Rattle.regions.specs.Run.{Reached}
-use Rattle.regions.specs.Closed.{Closed, ExactlyOne}
-use Rattle.regions.proofs.Laws.Index.{exactly-one}
-use Rattle.tables.specs.Answer.{Answer, accepted, refused}
-use Rattle.tables.specs.Reading.{Read, good, bad, Reader, carry, next-bytes, require, end, next-record, records, answered}
-use Rattle.tables.specs.TableFile.{header, location, edge-record, table-file}
-use Rattle.tables.specs.Admission.{edges-bounded, admitted, record-count, admission, table-of}
-use Rattle.tables.specs.Meaning.{Limits}
+use Rattle.automata.specs.Row.{Row}
+use Rattle.automata.specs.Edge.{Edge}
+use Rattle.automata.specs.Automaton.{Table, Admitted}
+use Rattle.automata.specs.Run.{Reached}
+use Rattle.automata.specs.Closed.{Closed, ExactlyOne}
+use Rattle.automata.proofs.Laws.Index.{exactly-one}
+use Rattle.table_files.specs.Answer.{Answer, accepted, refused}
+use Rattle.table_files.specs.Reading.{Read, good, bad, Reader, carry, next-bytes, require, end, next-record, records, answered}
+use Rattle.table_files.specs.TableFile.{header, location, edge-record, table-file}
+use Rattle.table_files.specs.Admission.{edges-bounded, admitted, record-count, admission, table-of}
+use Rattle.table_files.specs.Meaning.{Limits}
 use Rattle.tables.specs.Values.{Describes, Opens}
-use Rattle.tables.specs.declared.admission.Head.{Head}
-use Rattle.tables.specs.declared.admission.Opened.{Opened}
-use Rattle.tables.proofs.Laws.Admission.{admission-read, admission-admitted, admission-limits}
+use Rattle.table_records.specs.declared.head.Head.{Head}
+use Rattle.table_records.specs.declared.head.Opened.{Opened}
+use Rattle.table_files.proofs.Laws.Admission.{admission-read, admission-admitted, admission-limits}
 
 abbrev pub Numbered : {A : Type 0} → Read A → Type 0
 Numbered (good a rest) = Unit {0}

@@ -1,5 +1,5 @@
 use Rattle.checker.proofs.Laws.HostCalls.{admission-promises}
-use Rattle.tables.specs.Answer.{packed}
+use Rattle.table_files.specs.Answer.{packed}
 use mathlib.Core.Path.{ap, _∙_}
 use borrow.Author.Needs.{needs}
 use Rattle.checker.proofs.c.tzelmaruf_admit.Statement.{statement}

@@ -1,12 +1,12 @@
 use denote.Ref.{now}
 use Rattle.tables.specs.Values.{answer-of}
-use Rattle.checker.proofs.Laws.RegionCall.{packed-promises}
+use Rattle.region_lists.proofs.Laws.RegionCall.{packed-promises}
 use borrow.Author.Needs.{needs}
 use Rattle.checker.proofs.c.tzelmaruf_check_regions.Statement.{statement}
 use Rattle.checker.proofs.c.tzelmaruf_check_regions.Tie as tie
 use Rattle.checker.proofs.c.tzelmaruf_check_regions.Reads as reads
 use Rattle.checker.proofs.c.tzelmaruf_check_regions.Lts as lts
-use Rattle.checker.proofs.region_list.check_regions.Reads as check-regions-reads
+use Rattle.region_lists.proofs.region_list.check_regions.Reads as check-regions-reads
 use Rattle.tables.proofs.answer.packed.Reads as packed-reads
 
 -- src/c.rt:26:12

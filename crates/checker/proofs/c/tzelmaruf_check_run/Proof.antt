@@ -6,7 +6,7 @@ use Rattle.checker.proofs.c.tzelmaruf_check_run.Statement.{statement}
 use Rattle.checker.proofs.c.tzelmaruf_check_run.Tie as tie
 use Rattle.checker.proofs.c.tzelmaruf_check_run.Reads as reads
 use Rattle.checker.proofs.c.tzelmaruf_check_run.Lts as lts
-use Rattle.checker.proofs.run.check_run.Reads as check-run-reads
+use Rattle.run_lists.proofs.run.check_run.Reads as check-run-reads
 use Rattle.tables.proofs.answer.packed.Reads as packed-reads
 
 -- src/c.rt:39:12

@@ -1,6 +1,6 @@
 use mathlib.Core.Path.{ap}
-use Rattle.regions.specs.Comparison.{place}
-use Rattle.regions.proofs.Laws.Order.{compare-lt, compare-eq, compare-gt}
+use Rattle.automata.specs.Comparison.{place}
+use Rattle.automata.proofs.Laws.Order.{compare-lt, compare-eq, compare-gt}
 use native.Mathlib.Omega.{arith}
 use Rattle.regions.proofs.comparison.side.Statement.{statement}
 use Rattle.regions.proofs.comparison.side.Tie as tie

@@ -1,6 +1,6 @@
 use Rattle.regions.specs.Image.{dense-at}
 use Rattle.regions.specs.Values.{padded}
-use Rattle.regions.specs.Clocks.{each}
+use Rattle.automata.specs.Clocks.{each}
 use lib.ListN.{length}
 use native.Mathlib.Omega.{arith}
 use Prim.Native.Nat.{_-_, _≤_}

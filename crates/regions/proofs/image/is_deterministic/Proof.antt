@@ -1,6 +1,6 @@
 use Rattle.regions.specs.Image.{settled-at, deterministic}
 use Rattle.regions.specs.Values.{edge-of}
-use Rattle.regions.specs.Clocks.{allb}
+use Rattle.automata.specs.Clocks.{allb}
 use lib.ListN.{length}
 use native.Mathlib.Omega.{arith}
 use Prim.Native.Nat.{_-_, _≤_}

@@ -1,10 +1,10 @@
 use Rattle.regions.specs.Image.{marked}
-use Rattle.regions.specs.Clocks.{at, count}
+use Rattle.automata.specs.Clocks.{at, count}
 use lib.ListN.{length, length-set}
 use native.Mathlib.Omega.{arith}
 use Prim.Native.Nat.{ℕ, _+_, _-_, _≤_}
 use mathlib.Core.Path.{_≡_, refl, _∙_}
-use Rattle.regions.proofs.Laws.Count.{count-le}
+use Rattle.automata.proofs.Laws.Count.{count-le}
 use Rattle.regions.proofs.Laws.ImageTests.{total-more, counted-more}
 use borrow.Author.Needs.{needs}
 use Rattle.regions.proofs.image.new_ranks.Statement.{statement}

@@ -1,5 +1,5 @@
 use mathlib.Core.Bool.{true}
-use Rattle.regions.specs.Clocks.{at}
+use Rattle.automata.specs.Clocks.{at}
 use Rattle.regions.specs.Image.{marked, usedb}
 use lib.ListN.{length, length-set}
 use native.Mathlib.Omega.{arith}

@@ -1,6 +1,6 @@
 use borrow.Author.Tests.{lt-ltb, le-ltb}
 use borrow.Author.Needs.{needs}
-use Rattle.regions.specs.Rows.{openb}
+use Rattle.automata.specs.Rows.{openb}
 use Rattle.regions.proofs.region.is_open.Statement.{statement}
 use Rattle.regions.proofs.region.is_open.Tie as tie
 

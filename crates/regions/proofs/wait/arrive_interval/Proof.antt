@@ -1,6 +1,6 @@
 use borrow.Author.Tests.{eq-eqb, ne-eqb}
 use borrow.Author.Needs.{needs}
-use Rattle.regions.specs.Wait.{arrive-interval}
+use Rattle.automata.specs.Wait.{arrive-interval}
 use Rattle.regions.proofs.wait.arrive_interval.Statement.{statement}
 use Rattle.regions.proofs.wait.arrive_interval.Tie as tie
 

@@ -1,5 +1,5 @@
 use borrow.Author.Tests.{eq-eqb, ne-eqb}
-use Rattle.regions.specs.Wait.{arrive-rank}
+use Rattle.automata.specs.Wait.{arrive-rank}
 use Rattle.regions.proofs.wait.arrive_rank.Statement.{statement}
 use Rattle.regions.proofs.wait.arrive_rank.Tie as tie
 

@@ -1,6 +1,6 @@
 use borrow.Author.Tests.{lt-leb, le-leb}
 use borrow.Author.Needs.{needs}
-use Rattle.regions.specs.Wait.{evenb}
+use Rattle.automata.specs.Wait.{evenb}
 use Rattle.regions.proofs.wait.is_even.Statement.{statement}
 use Rattle.regions.proofs.wait.is_even.Tie as tie
 

@@ -1,8 +1,8 @@
 use native.Mathlib.Omega.{arith}
 use mathlib.Core.Path.{sym, _∙_}
 use borrow.Author.Needs.{needs}
-use Rattle.regions.specs.Wait.{leave-interval}
-use Rattle.regions.proofs.Laws.Clocks.{evenb-law}
+use Rattle.automata.specs.Wait.{leave-interval}
+use Rattle.automata.proofs.Laws.Clocks.{evenb-law}
 use Rattle.regions.proofs.wait.leave_interval.Statement.{statement}
 use Rattle.regions.proofs.wait.leave_interval.Tie as tie
 

@@ -2,7 +2,7 @@ use native.Mathlib.Omega.{arith}
 use mathlib.Core.Path.{sym}
 use borrow.Author.Tests.{lt-ltb, le-ltb, not-true, not-false}
 use borrow.Author.Needs.{needs}
-use Rattle.regions.specs.Wait.{leave-rank}
+use Rattle.automata.specs.Wait.{leave-rank}
 use Rattle.regions.proofs.wait.leave_rank.Statement.{statement}
 use Rattle.regions.proofs.wait.leave_rank.Tie as tie
 

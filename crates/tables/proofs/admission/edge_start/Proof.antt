@@ -2,9 +2,9 @@ use mathlib.Core.Path.{_≡_}
 use Prim.Native.Nat.{_-_, _≤_}
 use native.Mathlib.Omega.{arith}
 use denote.Ref.{now}
-use Rattle.tables.specs.Edge.{after-edge}
-use Rattle.tables.specs.Skips.{skip}
-use Rattle.tables.proofs.Laws.Skips.{skip-none, skip-one}
+use Rattle.table_records.specs.Edge.{after-edge}
+use Rattle.table_records.specs.Skips.{skip}
+use Rattle.table_records.proofs.Laws.Skips.{skip-none, skip-one}
 use Rattle.tables.proofs.Laws.Described.{edge-stands}
 use borrow.Author.Needs.{needs}
 use Rattle.tables.proofs.admission.edge_start.Statement.{statement}

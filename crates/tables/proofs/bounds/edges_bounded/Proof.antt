@@ -4,7 +4,7 @@ use lib.ListN.{length, drop}
 use Prim.Native.Nat.{_-_}
 use Rattle.regions.specs.Values.{bounds-of}
 use Rattle.tables.specs.Bounds.{edges-at}
-use Rattle.tables.specs.Admission.{edges-bounded}
+use Rattle.table_files.specs.Admission.{edges-bounded}
 use Rattle.tables.proofs.Laws.Bounds.{Unbroken, all-unbroken, none-broken, stands-here, one-broken, one-unbroken}
 use borrow.Author.Needs.{needs}
 use Rattle.tables.proofs.bounds.edges_bounded.Statement.{statement}

@@ -1,12 +1,12 @@
 use Rattle.regions.specs.Values.{bounds-of, guard-of}
-use Rattle.tables.specs.Admission.{guard-bounded}
+use Rattle.table_files.specs.Admission.{guard-bounded}
 use Rattle.tables.proofs.Laws.Bounds.{guards-each, no-guard}
 use lib.ListN.{length, getD}
 use native.Mathlib.Omega.{arith}
 use borrow.Author.Tests.{not-true, not-false}
 use mathlib.Core.Path.{_≡_, sym, _∙_}
 use Prim.Native.Nat.{ℕ, _-_}
-use Rattle.tables.proofs.Laws.Loops.{length-mapped, Passed, none-tested, all-tested, one-passes, one-fails}
+use Rattle.table_records.proofs.Laws.Loops.{length-mapped, Passed, none-tested, all-tested, one-passes, one-fails}
 use borrow.Author.Needs.{needs}
 use Rattle.tables.proofs.bounds.guards_bounded.Statement.{statement}
 use Rattle.tables.proofs.bounds.guards_bounded.Tie as tie

@@ -6,7 +6,7 @@ use native.Mathlib.Omega.{arith}
 use borrow.Author.Tests.{not-true, not-false}
 use mathlib.Core.Path.{_≡_, sym, _∙_}
 use Prim.Native.Nat.{ℕ, _-_}
-use Rattle.tables.proofs.Laws.Loops.{Passed, none-tested, all-tested, one-passes, one-fails}
+use Rattle.table_records.proofs.Laws.Loops.{Passed, none-tested, all-tested, one-passes, one-fails}
 use borrow.Author.Needs.{needs}
 use Rattle.tables.proofs.bounds.updates_bounded.Statement.{statement}
 use Rattle.tables.proofs.bounds.updates_bounded.Tie as tie

@@ -1,7 +1,7 @@
 use Rattle.regions.proofs.Laws.Moves.{none-permitted, one-permitted}
 use borrow.Author.Tests.{lt-leb, le-leb}
 use Rattle.regions.specs.Placing.{some-permitted}
-use Rattle.regions.specs.Clocks.{allb}
+use Rattle.automata.specs.Clocks.{allb}
 use mathlib.Core.Bool.{true}
 use mathlib.Core.Path.{_≡_, refl, sym, _∙_}
 use Prim.Native.Nat.{_-_, _≤_}

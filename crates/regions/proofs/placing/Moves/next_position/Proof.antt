@@ -1,5 +1,5 @@
 use Rattle.regions.specs.Placing.{rank-fits-at}
-use Rattle.regions.specs.Successors.{least}
+use Rattle.automata.specs.Successors.{least}
 use mathlib.Core.Path.{_≡_, refl, sym, _∙_}
 use Prim.Native.Nat.{_+_, _-_, _*_}
 use native.Mathlib.Omega.{arith}

@@ -2,7 +2,7 @@ use Rattle.regions.proofs.Laws.Values.{allb-more, allb-fails, allb-end}
 use native.Mathlib.Omega.{arith}
 use Prim.Native.Nat.{_-_, _≤_}
 use mathlib.Core.Path.{_≡_, refl, sym, _∙_}
-use Rattle.regions.specs.Clocks.{allb}
+use Rattle.automata.specs.Clocks.{allb}
 use Rattle.regions.specs.Placing.{clock-fits-at, rank-fits-at}
 use mathlib.Core.Bool.{true}
 use borrow.Author.Tests.{not-true, not-false}

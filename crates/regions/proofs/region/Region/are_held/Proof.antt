@@ -5,8 +5,8 @@ use mathlib.Core.Path.{_≡_, refl, sym, _∙_}
 use borrow.Author.Tests.{not-true, not-false}
 use borrow.Author.Needs.{needs}
 use Rattle.regions.specs.Values.{bounds-of, row-of}
-use Rattle.regions.specs.Rows.{heldb}
-use Rattle.regions.specs.Clocks.{allb}
+use Rattle.automata.specs.Rows.{heldb}
+use Rattle.automata.specs.Clocks.{allb}
 use Rattle.regions.proofs.Laws.Values.{allb-more, allb-fails, allb-end}
 use Rattle.regions.proofs.region.Region.are_held.Statement.{statement}
 use Rattle.regions.proofs.region.Region.are_held.Tie as tie

@@ -3,7 +3,7 @@ use native.Mathlib.Omega.{arith}
 use mathlib.Core.Path.{_≡_, refl}
 use borrow.Author.Needs.{needs}
 use Rattle.regions.specs.Values.{row-of, padded}
-use Rattle.regions.specs.Clocks.{each}
+use Rattle.automata.specs.Clocks.{each}
 use Rattle.regions.proofs.Laws.WaitTests.{arrived-interval, arrived-rank, interval-small, arrived-interval-next, arrived-rank-next, arrived-is}
 use Rattle.regions.proofs.region.Region.arrived.Statement.{statement}
 use Rattle.regions.proofs.region.Region.arrived.Tie as tie

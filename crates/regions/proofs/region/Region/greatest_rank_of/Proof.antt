@@ -2,7 +2,7 @@ use Prim.Native.Nat.{_≤_, _-_}
 use native.Mathlib.Omega.{arith}
 use mathlib.Core.Path.{_≡_, refl}
 use lib.ListN.{length, take}
-use Rattle.regions.specs.Clocks.{greatest}
+use Rattle.automata.specs.Clocks.{greatest}
 use Rattle.regions.proofs.Laws.WaitTests.{greatest-more}
 use borrow.Author.Needs.{needs}
 use Rattle.regions.proofs.region.Region.greatest_rank_of.Statement.{statement}

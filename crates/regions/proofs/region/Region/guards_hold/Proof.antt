@@ -5,7 +5,7 @@ use lib.ListN.{length, drop}
 use borrow.Author.Tests.{not-true, not-false}
 use borrow.Author.Needs.{needs}
 use Rattle.regions.specs.Values.{bounds-of, row-of, edge-of}
-use Rattle.regions.specs.Successors.{guardsb}
+use Rattle.automata.specs.Successors.{guardsb}
 use Rattle.regions.proofs.Laws.Values.{length-under, length-first}
 use Rattle.regions.proofs.Laws.GuardTests.{guards-on, guards-fail, guards-end, guard-clock}
 use Rattle.regions.proofs.region.Region.guards_hold.Statement.{statement}

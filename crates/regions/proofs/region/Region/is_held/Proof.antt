@@ -5,7 +5,7 @@ use mathlib.Core.Path.{_≡_, refl}
 use lib.ListN.{take}
 use borrow.Author.Tests.{ne-eqb}
 use borrow.Author.Needs.{needs}
-use Rattle.regions.specs.Clocks.{someb}
+use Rattle.automata.specs.Clocks.{someb}
 use Rattle.regions.proofs.Laws.Values.{at-is, at-take, someb-more}
 use Rattle.regions.proofs.Laws.RegionTests.{held-zero, held-found, held-none}
 use Rattle.regions.proofs.region.Region.is_held.Statement.{statement}

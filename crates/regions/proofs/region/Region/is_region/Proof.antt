@@ -5,8 +5,8 @@ use mathlib.Core.Path.{_≡_, refl, sym, _∙_}
 use borrow.Author.Tests.{not-true, not-false}
 use borrow.Author.Needs.{needs}
 use Rattle.regions.specs.Values.{bounds-of, row-of}
-use Rattle.regions.specs.Rows.{clockb}
-use Rattle.regions.specs.Clocks.{allb}
+use Rattle.automata.specs.Rows.{clockb}
+use Rattle.automata.specs.Clocks.{allb}
 use Rattle.regions.proofs.Laws.RegionTests.{row-is}
 use Rattle.regions.proofs.Laws.Values.{allb-more, allb-fails, allb-end}
 use Rattle.regions.proofs.region.Region.is_region.Statement.{statement}

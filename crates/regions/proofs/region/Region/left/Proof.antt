@@ -3,7 +3,7 @@ use native.Mathlib.Omega.{arith}
 use mathlib.Core.Path.{_≡_, refl}
 use borrow.Author.Needs.{needs}
 use Rattle.regions.specs.Values.{bounds-of, row-of, padded}
-use Rattle.regions.specs.Clocks.{each}
+use Rattle.automata.specs.Clocks.{each}
 use Rattle.regions.proofs.Laws.WaitTests.{left-interval, left-rank, rank-small, left-interval-next, left-rank-next, left-is}
 use Rattle.regions.proofs.region.Region.left.Statement.{statement}
 use Rattle.regions.proofs.region.Region.left.Tie as tie

@@ -1,6 +1,6 @@
 use Rattle.regions.specs.Image.{reaches-at, interval-at, rank-at}
 use Rattle.regions.specs.Values.{bounds-of, row-of, padded, edge-of}
-use Rattle.regions.specs.Clocks.{each, allb}
+use Rattle.automata.specs.Clocks.{each, allb}
 use lib.ListN.{length}
 use native.Mathlib.Omega.{arith}
 use Prim.Native.Nat.{_-_, _≤_}

@@ -4,7 +4,7 @@ use Rattle.regions.proofs.Laws.Moves.{bounded-at, moved-more}
 use Rattle.regions.proofs.Laws.Values.{length-under, length-first}
 use Rattle.regions.specs.Placing.{still}
 use Rattle.regions.specs.Move.{move-of}
-use Rattle.regions.specs.Edge.{idle}
+use Rattle.automata.specs.Edge.{idle}
 use Rattle.regions.specs.Values.{bounds-of, row-of, edge-of}
 use lib.ListN.{length, getD}
 use mathlib.Core.Path.{_≡_}

@@ -4,8 +4,8 @@ use mathlib.Core.Bool.{false}
 use mathlib.Core.Path.{_≡_, refl, sym, _∙_}
 use borrow.Author.Needs.{needs}
 use Rattle.regions.specs.Values.{bounds-of, row-of}
-use Rattle.regions.specs.Wait.{evenb, some-evenb}
-use Rattle.regions.specs.Clocks.{someb}
+use Rattle.automata.specs.Wait.{evenb, some-evenb}
+use Rattle.automata.specs.Clocks.{someb}
 use Rattle.regions.proofs.Laws.WaitTests.{test-of, some-found, some-more, some-end}
 use Rattle.regions.proofs.region.Region.some_even.Statement.{statement}
 use Rattle.regions.proofs.region.Region.some_even.Tie as tie

@@ -1,6 +1,6 @@
 use borrow.Author.Tests.{eq-eqb, ne-eqb}
 use borrow.Author.Needs.{needs}
-use Rattle.regions.specs.Wait.{wait}
+use Rattle.automata.specs.Wait.{wait}
 use Rattle.regions.proofs.region.Region.wait.Statement.{statement}
 use Rattle.regions.proofs.region.Region.wait.Tie as tie
 

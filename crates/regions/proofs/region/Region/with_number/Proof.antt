@@ -1,46 +1,46 @@
 use native.Mathlib.Omega.{arith}
 use borrow.Author.Tests.{le-leb, lt-leb}
-use Rattle.regions.specs.Choice.{put}
+use Rattle.regions.specs.Order.{put}
 use borrow.Author.Needs.{needs}
 use Rattle.regions.proofs.region.Region.with_number.Statement.{statement}
 use Rattle.regions.proofs.region.Region.with_number.Tie as tie
 use Rattle.regions.proofs.region.Region.with_number.Reads as reads
 use Rattle.regions.proofs.region.Region.with_number.Lts as lts
 
--- src/choice.rt:29:31
+-- src/order.rt:39:31
 sub-changed : tie.Need-sub-changed
 sub-changed c = search needs
 
--- src/choice.rt:29:13
+-- src/order.rt:39:13
 mul-changed : tie.Need-mul-changed
 mul-changed c = search needs
 
--- src/choice.rt:29:13
+-- src/order.rt:39:13
 element-write-changed : tie.Need-element-write-changed
 element-write-changed c = search needs
 
--- src/choice.rt:30:13
+-- src/order.rt:40:13
 returns : tie.Need-returns
 unfolding put
 returns c = rw (le-leb _ _ (c .if1 .taken))
 
--- src/choice.rt:32:36
+-- src/order.rt:42:36
 cast-changed : tie.Need-cast-changed
 cast-changed c = omega (arith, c .before .pre .1 .1 (omega arith))
 
--- src/choice.rt:32:23
+-- src/order.rt:42:23
 sub-changed-2 : tie.Need-sub-changed-2
 sub-changed-2 c = search needs
 
--- src/choice.rt:32:23
+-- src/order.rt:42:23
 sub-changed-3 : tie.Need-sub-changed-3
 sub-changed-3 c = search needs
 
--- src/choice.rt:32:9
+-- src/order.rt:42:9
 element-write-changed-2 : tie.Need-element-write-changed-2
 element-write-changed-2 c = search needs
 
--- src/choice.rt:21:5
+-- src/order.rt:31:5
 returns-2 : tie.Need-returns-2
 unfolding put
 returns-2 c = let a = c .before .args in rw (lt-leb (a .i) (a .n) (omega arith))

@@ -1,0 +1,144 @@
+-- The main theorems, each stated whole. Assumes nothing.
+use Prim.Native.Nat.{ℕ, _*_, _≤_, _<_}
+use mathlib.Core.Path.{_≡_}
+use mathlib.Core.Bool.{true}
+use mathlib.Core.Logic.{_⊎_, _↔_}
+use mathlib.Core.Option.{none, some}
+use mathlib.Core.List.{List, map}
+use lib.ListN.{length}
+use Rattle.automata.specs.Comparison.{holds}
+use Rattle.automata.specs.Clocks.{at, greatest}
+use Rattle.automata.specs.Row.{Row, IsRow}
+use Rattle.automata.specs.Point.{Contains, later, scaled}
+use Rattle.automata.specs.Wait.{wait, Waits}
+use Rattle.automata.specs.Edge.{Guard, Guarded, GuardsIn, Edge, Allowed, Bounded, Leads}
+use Rattle.automata.specs.Automaton.{Table, edge, Admitted}
+use Rattle.automata.specs.Run.{State, Move, Run, Reached}
+use Rattle.automata.specs.Closed.{Mem, Ascends, RowOf, Closed, ExactlyOne}
+use Rattle.automata.specs.Successors.{guardsb, leadsb, wait-rows, edge-rows, next-rows}
+use Rattle.automata.specs.Checks.{closedb}
+use Rattle.automata.specs.Meeting.{Met, Successive}
+use Rattle.automata.proofs.Laws.Scale
+use Rattle.automata.proofs.Laws.Waiting
+use Rattle.automata.proofs.Laws.Finer
+use Rattle.automata.proofs.Laws.Time
+use Rattle.automata.proofs.Laws.Guards
+use Rattle.automata.proofs.Laws.Exists
+use Rattle.automata.proofs.Laws.Unique
+use Rattle.automata.proofs.Laws.Leads
+use Rattle.automata.proofs.Laws.Successors
+use Rattle.automata.proofs.Laws.Checks
+use Rattle.automata.proofs.Laws.Sound
+use Rattle.automata.proofs.Laws.Complete
+
+-- tables ------------------------------------------------------------------------------------------------------------------------
+
+-- on every admitted table exactly one holds: some run ends in a final location, or some list of rows is closed
+pub exactly-one : (T : Table) → Admitted T → ExactlyOne (Reached T) ((rows : List Row) × Closed T rows)
+exactly-one = Complete.exactly-one
+
+-- where a list of rows is closed, no run ends in a final location
+pub sound : (T : Table) (rows : List Row) → Closed T rows → Reached T → ⊥
+sound = Sound.sound
+
+-- one of the two holds
+pub complete : (T : Table) → Admitted T → Reached T ⊎ ((rows : List Row) × Closed T rows)
+complete = Complete.complete
+
+-- a closed list holds every row that a run, with a wait after its last step, comes to
+pub met-listed : (T : Table) (rows : List Row) → Closed T rows → (r : Row) → Met T r → Mem r rows
+met-listed = Sound.met-listed
+
+-- a run comes to every row that waiting and edges lead to from the initial row
+pub successive-met : (T : Table) → Admitted T → (r : Row) → Successive T r → Met T r
+successive-met = Complete.reach-met
+
+-- a run counted in 1/D is a run counted in 1/(k * D)
+pub run-scaling : (k : ℕ) (p : 0 < k) {T : Table} {D : ℕ} {ms : List Move} {s : State} → Run T D ms s
+    → Run T (k * D) (map (Finer.scaled-move k p) ms) (Finer.scaled-state k p s)
+run-scaling = Finer.run-scaled
+
+-- whether a list of rows is closed is decided by a test that computes
+pub closed-law : (T : Table) → Admitted T → (rows : List Row) → (closedb T rows ≡ true) ↔ Closed T rows
+closed-law = Checks.closed-law
+
+-- points and rows ---------------------------------------------------------------------------------------------------------------
+
+-- every point lies in a row of each location
+pub existence : (c : List ℕ) (D : ℕ) (v : List ℕ) (l : ℕ) → 0 < D → length v ≡ length c → (r : Row) × (r .location ≡ l) × IsRow c r × Contains c D v r
+existence = Exists.existence
+
+-- in one row only
+pub uniqueness : (c : List ℕ) (D : ℕ) (v : List ℕ) (r s : Row) → r .location ≡ s .location → IsRow c r → IsRow c s → Contains c D v r → Contains c D v s → r ≡ s
+uniqueness = Unique.row-unique
+
+-- the same one, in whatever counts
+pub scaling : (k : ℕ) → 0 < k → (c : List ℕ) (D : ℕ) (v : List ℕ) (r : Row) → Contains c D v r ↔ Contains c (k * D) (scaled k v) r
+scaling = Scale.scaling
+
+-- waiting -----------------------------------------------------------------------------------------------------------------------
+
+-- after any delay the point is in a row that waits lead to
+pub coverage : (c : List ℕ) (D : ℕ) (t : ℕ) (v : List ℕ) (r : Row) → IsRow c r → Contains c D v r → (s : Row) × Waits c r s × Contains c D (later t v) s
+coverage = Time.coverage
+
+-- from every point of a row the next row is met, at a half count
+pub progress : (c : List ℕ) (D : ℕ) (v : List ℕ) (r r′ : Row) → IsRow c r → Contains c D v r → wait c r ≡ some r′
+    → (t : ℕ) × Contains c (2 * D) (later t (scaled 2 v)) r′
+progress = Time.progress
+
+-- and it is met first: the point is still in its row, or has been in the next by then
+pub first : (c : List ℕ) (D : ℕ) (v : List ℕ) (r r′ : Row) → IsRow c r → Contains c D v r → wait c r ≡ some r′ → (t : ℕ)
+    → Contains c D (later t v) r ⊎ ((t′ : ℕ) × (t′ ≤ 2 * t) × Contains c (2 * D) (later t′ (scaled 2 v)) r′)
+first = Time.first
+
+-- where there is no next row the point stays
+pub rest : (c : List ℕ) (D : ℕ) (v : List ℕ) (r : Row) → IsRow c r → Contains c D v r → wait c r ≡ none → (t : ℕ) → Contains c D (later t v) r
+rest = Time.rest
+
+-- the next row is a row
+pub wait-is-row : (c : List ℕ) (r r′ : Row) → IsRow c r → wait c r ≡ some r′ → IsRow c r′
+wait-is-row = Waiting.wait-row
+
+-- edges -------------------------------------------------------------------------------------------------------------------------
+
+-- a clock compares with a constant as its interval does with twice that, by every comparison
+pub guard-holds : (c : List ℕ) (D : ℕ) (v : List ℕ) (r : Row) → Contains c D v r → (cmp z k : ℕ) → z < length c → k ≤ at c z
+    → holds cmp (at v z) (k * D) ≡ holds cmp (at (r .intervals) z) (2 * k)
+guard-holds = Guards.guard-holds
+
+-- so the guards hold at every point of a row or at none
+pub guards-law : (c : List ℕ) (D : ℕ) (v : List ℕ) (r : Row) → Contains c D v r → (gs : List Guard) → GuardsIn c gs → (guardsb r gs ≡ true) ↔ Guarded D v gs
+guards-law = Guards.guards-law
+
+-- the executable test is the semantic law
+pub leads-law : (c : List ℕ) (e : Edge) (r r′ : Row) → IsRow c r → Bounded c e → (leadsb c e r r′ ≡ true) ↔ Leads c e r r′
+leads-law = Leads.leads-law
+
+-- what leads from one point of the row leads from every point, in any unit k times finer
+pub from-any-point : (c : List ℕ) (e : Edge) (r r′ : Row) → IsRow c r → Bounded c e → Leads c e r r′
+    → (D : ℕ) (v : List ℕ) → Contains c D v r → (k : ℕ) → 2 ≤ k → greatest (r′ .ranks) < k
+    → (v′ : List ℕ) × Contains c (k * D) v′ r′ × Guarded (k * D) (scaled k v) (e .guards) × Allowed (k * D) (scaled k v) v′ (e .updates)
+from-any-point = Leads.from-any-point
+
+-- next rows, as lists -----------------------------------------------------------------------------------------------------------
+
+pub wait-rows-law : (c : List ℕ) (r r′ : Row) → Mem r′ (wait-rows c r) ↔ (wait c r ≡ some r′)
+wait-rows-law = Successors.wait-rows-law
+
+pub edge-rows-law : (c : List ℕ) (e : Edge) (r r′ : Row) → IsRow c r → Bounded c e → Mem r′ (edge-rows c e r) ↔ Leads c e r r′
+edge-rows-law = Successors.edge-rows-law
+
+pub edge-rows-ascend : (c : List ℕ) (e : Edge) (r : Row) → Ascends (edge-rows c e r)
+edge-rows-ascend = Successors.edge-rows-ascend
+
+-- the next rows of a table's row are those by a wait or an edge, and are the table's
+pub next-rows-law : (T : Table) → Admitted T → (r r′ : Row) → RowOf T r
+    → Mem r′ (next-rows T r) ↔ ((wait (T .bounds) r ≡ some r′) ⊎ ((i : ℕ) × (i < length (T .edges)) × Leads (T .bounds) (edge T i) r r′))
+next-rows-law = Successors.next-rows-law
+
+pub wait-keeps : (T : Table) (r r′ : Row) → RowOf T r → wait (T .bounds) r ≡ some r′ → RowOf T r′
+wait-keeps = Successors.wait-keeps
+
+pub edge-keeps : (T : Table) → Admitted T → (r r′ : Row) (i : ℕ) → i < length (T .edges) → Leads (T .bounds) (edge T i) r r′ → RowOf T r′
+edge-keeps = Successors.edge-keeps

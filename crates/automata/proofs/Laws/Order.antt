@@ -1,0 +1,101 @@
+-- The order of two numbers, as `compare` tells it. Assumes nothing.
+use Prim.Native.Nat.{ℕ, zero, suc, _*_, _≤_, _<_, compare, Ordering, Ordering·lt, Ordering·eq, Ordering·gt}
+use Prim.Native.Nat.{compare·zero-zero, compare·zero-suc, compare·suc-zero, compare·suc-suc}
+use native.Mathlib.Nat.{mul-lt-mul-of-pos-left}
+use native.Mathlib.Omega.{arith}
+use mathlib.Core.Path.{_≡_, refl, sym, ap, _∙_}
+use mathlib.Core.Bool.{Bool, false}
+use mathlib.Core.List.{List, [], _∷_}
+use lib.ListN.{length, getD}
+use Rattle.automata.specs.Comparison.{answers, place, answer, holds}
+
+-- the three cases of two numbers, each with what `compare` says
+pub data Tri (a b : ℕ) : Type 0 where
+  is-lt : a < b → compare a b ≡ Ordering·lt → Tri a b
+  is-eq : a ≡ b → compare a b ≡ Ordering·eq → Tri a b
+  is-gt : b < a → compare a b ≡ Ordering·gt → Tri a b
+
+tri-suc : (a b : ℕ) → Tri a b → Tri (suc a) (suc b)
+tri-suc a b (is-lt h e) = is-lt (omega arith) (compare·suc-suc a b ∙ e)
+tri-suc a b (is-eq h e) = is-eq (omega arith) (compare·suc-suc a b ∙ e)
+tri-suc a b (is-gt h e) = is-gt (omega arith) (compare·suc-suc a b ∙ e)
+
+pub tri : (a b : ℕ) → Tri a b
+tri zero zero = is-eq refl compare·zero-zero
+tri zero (suc b) = is-lt (omega arith) (compare·zero-suc b)
+tri (suc a) zero = is-gt (omega arith) (compare·suc-zero a)
+tri (suc a) (suc b) = tri-suc a b (tri a b)
+
+pub compare-lt : (a b : ℕ) → a < b → compare a b ≡ Ordering·lt
+compare-lt a b h = go (tri a b)
+  where
+    go : Tri a b → compare a b ≡ Ordering·lt
+    go (is-lt k e) = e
+    go (is-eq k e) = absurd (omega arith)
+    go (is-gt k e) = absurd (omega arith)
+
+pub compare-eq : (a b : ℕ) → a ≡ b → compare a b ≡ Ordering·eq
+compare-eq a b h = go (tri a b)
+  where
+    go : Tri a b → compare a b ≡ Ordering·eq
+    go (is-lt k e) = absurd (omega arith)
+    go (is-eq k e) = e
+    go (is-gt k e) = absurd (omega arith)
+
+pub compare-gt : (a b : ℕ) → b < a → compare a b ≡ Ordering·gt
+compare-gt a b h = go (tri a b)
+  where
+    go : Tri a b → compare a b ≡ Ordering·gt
+    go (is-lt k e) = absurd (omega arith)
+    go (is-eq k e) = absurd (omega arith)
+    go (is-gt k e) = e
+
+-- two pairs whose orders agree compare alike, and the other way round ----------------------------------------------------------------
+
+pub same-order : (a b c d : ℕ) → (a < b → c < d) → (a ≡ b → c ≡ d) → (b < a → d < c) → compare a b ≡ compare c d
+same-order a b c d l e g = go (tri a b)
+  where
+    go : Tri a b → compare a b ≡ compare c d
+    go (is-lt h p) = p ∙ sym (compare-lt c d (l h))
+    go (is-eq h p) = p ∙ sym (compare-eq c d (e h))
+    go (is-gt h p) = p ∙ sym (compare-gt c d (g h))
+
+pub record Alike (a b c d : ℕ) : Type 0 where
+  pub lt : a < b → c < d
+  pub eq : a ≡ b → c ≡ d
+  pub gt : b < a → d < c
+
+pub alike : (a b c d : ℕ) → compare a b ≡ compare c d → Alike a b c d
+alike a b c d e = go (tri a b) (tri c d)
+  where
+    go : Tri a b → Tri c d → Alike a b c d
+    go (is-lt h p) (is-lt k q) = omega arith
+    go (is-lt h p) (is-eq k q) = let z : _≡_ {A = ℕ} 0 1 = cc in omega arith
+    go (is-lt h p) (is-gt k q) = let z : _≡_ {A = ℕ} 0 1 = cc in omega arith
+    go (is-eq h p) (is-lt k q) = let z : _≡_ {A = ℕ} 0 1 = cc in omega arith
+    go (is-eq h p) (is-eq k q) = omega arith
+    go (is-eq h p) (is-gt k q) = let z : _≡_ {A = ℕ} 0 1 = cc in omega arith
+    go (is-gt h p) (is-lt k q) = let z : _≡_ {A = ℕ} 0 1 = cc in omega arith
+    go (is-gt h p) (is-eq k q) = let z : _≡_ {A = ℕ} 0 1 = cc in omega arith
+    go (is-gt h p) (is-gt k q) = omega arith
+
+pub compare-times : (k x y : ℕ) → 0 < k → compare (k * x) (k * y) ≡ compare x y
+compare-times k x y p =
+    sym (same-order x y (k * x) (k * y) (λ h. mul-lt-mul-of-pos-left h p) (λ h. ap (λ (n : ℕ). k * n) h) (λ h. mul-lt-mul-of-pos-left h p))
+
+-- the table of comparisons ------------------------------------------------------------------------------------------------------------
+
+pub place-small : (o : Ordering) → place o < 3
+place-small Ordering·lt = omega arith
+place-small Ordering·eq = omega arith
+place-small Ordering·gt = omega arith
+
+-- a number past the table's last row names no comparison, and allows nothing
+pub no-comparison : (cmp x y : ℕ) → length answers ≤ cmp → holds cmp x y ≡ false
+unfolding holds answer
+no-comparison cmp x y h = ap (λ (row : List Bool). getD row (place (compare x y)) false) (past answers cmp h)
+  where
+    past : (rows : List (List Bool)) (i : ℕ) → length rows ≤ i → getD rows i [] ≡ []
+    past [] i h = refl
+    past (r ∷ rows) zero h = absurd (omega arith)
+    past (r ∷ rows) (suc i) h = past rows i (omega arith)

@@ -1,0 +1,14 @@
+-- What a reader must believe: tables, runs, regions and closed lists, and the next rows as lists that compute.
+pub mod Comparison
+pub mod Clocks
+pub mod Row
+pub mod Point
+pub mod Wait
+pub mod Edge
+pub mod Automaton
+pub mod Run
+pub mod Closed
+pub mod Rows
+pub mod Successors
+pub mod Checks
+pub mod Meeting

@@ -1,0 +1,1 @@
+// No code: timed automata, runs, regions, closed lists. See specs/ and proofs/Laws/.

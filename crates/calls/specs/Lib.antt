@@ -1,0 +1,6 @@
+-- What a reader must believe: the run list, the region list, following, and what their answers mean.
+pub mod RunFile
+pub mod RegionFile
+pub mod Follow
+pub mod Program
+pub mod Meaning

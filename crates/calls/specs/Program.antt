@@ -1,0 +1,50 @@
+-- What the program prints. Assumes nothing.
+use Prim.Native.Nat.{ℕ, zero, suc, _/_, _%_}
+use Prim.Native.String.{String, _++_}
+use mathlib.Core.Path.{_≡_}
+use mathlib.Core.Bool.{Bool, true, false, cond}
+use mathlib.Core.Option.{Option, none, some}
+use mathlib.Core.List.{List, [], _∷_}
+use lib.ListN.{getD, take}
+use lib.Dec.{ltb}
+use Rattle.automata.specs.Checks.{same}
+use Rattle.table_files.specs.Bytes.{RN}
+use Rattle.table_files.specs.Answer.{Answer, accepted, refused}
+use Rattle.calls.specs.RunFile.{run-answer}
+use Rattle.calls.specs.RegionFile.{ListAnswer}
+
+-- one digit
+abbrev pub digit : ℕ → String
+digit d = getD ("0" ∷ "1" ∷ "2" ∷ "3" ∷ "4" ∷ "5" ∷ "6" ∷ "7" ∷ "8" ∷ "9" ∷ []) d "?"
+
+-- a number of at most so many digits, without leading zeros
+abbrev pub decimal-of : ℕ → ℕ → String
+decimal-of zero n = ""
+decimal-of (suc k) n = cond (ltb n 10) (digit n) (decimal-of k (n / 10) ++ digit (n % 10))
+
+-- every count, number and place that is printed is below 100,000 (`Small` in Meaning), so five digits are never too few
+abbrev pub decimal : ℕ → String
+decimal n = decimal-of 5 n
+
+-- "Printed: `EMPTY 8` (verdict, rows)"; "printed `REFUSED 11 2` (number, place)"; "`REACHED 2` (steps)"
+abbrev pub printed : String → Answer → String
+printed verdict (accepted count) = verdict ++ " " ++ decimal count
+printed verdict (refused number place) = "REFUSED " ++ decimal number ++ " " ++ decimal place
+
+-- "RN first means a run, else a region list"; where the place of 17 is free, a line for each place
+abbrev pub PrintedFor : Bool → List ℕ → List ℕ → String → Type 0
+PrintedFor true table file line = line ≡ printed "REACHED" (run-answer table file)
+PrintedFor false table file line = (answer : Answer) × ListAnswer table file answer × (line ≡ printed "EMPTY" answer)
+
+-- the lines that may be printed for the two files
+abbrev pub Printed : List ℕ → List ℕ → String → Type 0
+Printed table file line = PrintedFor (same RN (take 2 file)) table file line
+
+-- "A file that can't be opened counts as empty"
+abbrev pub bytes-of : Option (List ℕ) → List ℕ
+bytes-of none = []
+bytes-of (some bytes) = bytes
+
+-- "reads table.tab and proof.prf .. and prints one line": the lines, each with its newline, for the files as they are found
+abbrev pub Prints : Option (List ℕ) → Option (List ℕ) → String → Type 0
+Prints table file text = (line : String) × Printed (bytes-of table) (bytes-of file) line × (text ≡ line ++ "\n")

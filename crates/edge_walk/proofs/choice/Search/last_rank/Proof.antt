@@ -1,0 +1,47 @@
+use mathlib.Core.Path.{sym, _∙_}
+use borrow.Author.Needs.{needs}
+use Rattle.edge_walk.proofs.choice.Search.last_rank.Statement.{statement}
+use Rattle.edge_walk.proofs.choice.Search.last_rank.Tie as tie
+use Rattle.edge_walk.proofs.choice.Search.last_rank.Reads as reads
+use Rattle.edge_walk.proofs.choice.Search.last_rank.Lts as lts
+use Rattle.regions.proofs.region.is_open.Reads as is-open-reads
+
+-- src/choice.rt:27:20
+mul-is-open : tie.Need-mul-is-open
+mul-is-open c = search needs
+
+-- src/choice.rt:27:20
+element-copy-out-is-open : tie.Need-element-copy-out-is-open
+element-copy-out-is-open c = search needs
+
+-- src/choice.rt:27:38
+mul-is-open-2 : tie.Need-mul-is-open-2
+mul-is-open-2 c = search needs
+
+-- src/choice.rt:27:38
+element-copy-out-is-open-2 : tie.Need-element-copy-out-is-open-2
+element-copy-out-is-open-2 c = search needs
+
+-- src/choice.rt:27:12
+is-open-requires : tie.Need-is-open-requires
+is-open-requires c κs = c .before .before .before .pre .0 .few .low _
+
+-- src/choice.rt:28:13
+returns : tie.Need-returns
+returns c = rw (← c .before .is-open .ensures, c .if1 .taken)
+
+-- src/choice.rt:21:5
+returns-2 : tie.Need-returns-2
+returns-2 c = rw (← c .before .is-open .ensures, c .if1 .left)
+
+pub last-rank-spec : {M : Type 1} → statement M
+last-rank-spec =
+    tie.close
+    (tie.spec
+    mul-is-open
+    element-copy-out-is-open
+    mul-is-open-2
+    element-copy-out-is-open-2
+    is-open-requires
+    returns
+    returns-2)

@@ -1,0 +1,91 @@
+-- The walk over an edge's next rows, which chooses the numbers of a row one after the other: what it seeks, and how far it has come.
+-- Assumes nothing.
+use Prim.Native.Nat.{ℕ, _+_, _*_, _-_, _≤_, _<_}
+use mathlib.Core.Path.{_≡_}
+use mathlib.Core.Bool.{Bool, true, cond, not, _&&_}
+use mathlib.Core.Logic.{_⊎_}
+use mathlib.Core.Option.{Option, none, some}
+use mathlib.Core.List.{List}
+use lib.ListN.{getD, set}
+use lib.Dec.{leb, ltb}
+use Rattle.automata.specs.Clocks.{at}
+use Rattle.automata.specs.Row.{Row, IsRow, Before, Below}
+use Rattle.automata.specs.Rows.{openb}
+use Rattle.regions.specs.Values.{Few, bounds-of, row-of, region-of, sought}
+use Rattle.regions.specs.Order.{numbers}
+use Rattle.regions.specs.Placing.{still, placed-at}
+use Rattle.regions.specs.declared.region.Region.{Region}
+use Rattle.regions.specs.declared.region.Sought.{Sought}
+use Rattle.edge_walk.specs.declared.choice.Search.{Search}
+
+-- numbers -----------------------------------------------------------------------------------------------------------------------
+
+-- two lists of numbers agree before place i
+abbrev pub Agree : ℕ → List ℕ → List ℕ → Type 0
+Agree i xs ys = (j : ℕ) → j < i → at xs j ≡ at ys j
+
+-- what is sought ----------------------------------------------------------------------------------------------------------------
+
+-- a row that the moves allow
+pub record Candidate (s : Search) (x : Row) : Type 0 where
+  pub is-row : IsRow (bounds-of (s .clocks)) x
+  pub placed : placed-at (s .moves .each) (s .moves .ranks) (s .clocks .count) (x .intervals) (x .ranks) ≡ true
+
+-- a row that goes on from the first i of the numbers ps, and lies above those of the floor where it has to be looked at still
+pub record Wanted (C : Row → Type 0) (floor ps : List ℕ) (i : ℕ) (tight : Bool) (x : Row) : Type 0 where
+  pub held : C x
+  pub agrees : Agree i (numbers x) ps
+  pub above : tight ≡ true → Before floor (numbers x)
+
+-- the least of the rows, or none where there is none
+abbrev pub First : (Row → Type 0) → Option Row → Type 0
+First Q none = (x : Row) → Q x → ⊥
+First Q (some y) = Q y × ((x : Row) → Q x → (x ≡ y) ⊎ Below y x)
+
+-- an answer is the least of the rows
+pub record Answers (Q : Row → Type 0) (r : Sought) : Type 0 where
+  pub row : Option Row
+  pub given : r ≡ sought row
+  pub first : First Q row
+
+-- the walk ----------------------------------------------------------------------------------------------------------------------
+
+-- few clocks and ranks, and each clock's top
+pub record Ready (s : Search) : Type 0 where
+  pub few : Few (s .clocks)
+  pub few-ranks : s .moves .ranks ≤ 4
+  pub tops : (z : ℕ) → z < s .clocks .count → getD (s .moves .each) z still .top ≡ 2 * at (s .clocks .bounds) z + 1
+
+-- the numbers of a region, as the search has them
+abbrev pub numbers-of : Search → Region → List ℕ
+numbers-of s v = numbers (row-of (s .clocks .count) v)
+
+-- the first i numbers of the part are chosen; where it is tight they are the floor's
+pub record Underway (s : Search) (part : Region) (i : ℕ) (tight : Bool) : Type 0 where
+  pub plain : region-of (row-of (s .clocks .count) part) ≡ part
+  pub begun : 0 < i
+  pub within : i ≤ 1 + 2 * s .clocks .count
+  pub along : tight ≡ true → Agree i (numbers-of s part) (numbers-of s (s .floor))
+
+-- what a part can become
+abbrev pub Goal : Search → Region → ℕ → Bool → Row → Type 0
+Goal s part i tight = Wanted (Candidate s) (numbers-of s (s .floor)) (numbers-of s part) i tight
+
+-- the greatest rank in interval j, for n clocks and the bound c
+abbrev pub rank-limit : ℕ → ℕ → ℕ → ℕ
+rank-limit n c j = cond (openb c j) n 0
+
+-- the ranks chosen so far have no positions
+unfoldable pub stuckb : Search → Region → ℕ → Bool
+stuckb s part i = ltb (s .clocks .count) i && not (placed-at (s .moves .each) (s .moves .ranks) (i - 1 - s .clocks .count) (part .intervals) (part .ranks))
+
+-- no candidate has its number i from k to before m
+pub record Skips (s : Search) (part : Region) (i k m : ℕ) : Type 0 where
+  pub on : k ≤ m
+  pub over : (x : Row) → Candidate s x → Agree i (numbers x) (numbers-of s part) → k ≤ at (numbers x) i → m ≤ at (numbers x) i
+
+-- no candidate has its number i above m
+pub record Ends (s : Search) (part : Region) (i m : ℕ) : Type 0 where
+  pub low : m ≤ 32767
+  pub low-rank : s .clocks .count < i → m ≤ 4
+  pub all : (x : Row) → Candidate s x → Agree i (numbers x) (numbers-of s part) → at (numbers x) i ≤ m

@@ -1,0 +1,83 @@
+// The choices of the walk over an edge's next regions: it chooses the numbers of a region one after the other, intervals clock by clock and then
+// ranks clock by clock, which is document 01's order of regions.
+use regions::placing::Moves;
+use regions::region::Clocks;
+use regions::region::Region;
+use regions::region::is_open;
+ghost use mathlib.Core.Path.{_≡_};
+ghost use Prim.Native.Nat.{_+_, _*_, _≤_, _<_};
+ghost use Rattle.automata.specs.Clocks.{at};
+ghost use Rattle.edge_walk.specs.Choice.{rank-limit, stuckb, Ready, Skips, Ends};
+
+// What the walk goes by: the clocks, their moves, and the region above which it seeks.
+pub struct Search {
+    pub clocks: Clocks,
+    pub moves: Moves,
+    pub floor: Region,
+}
+
+impl Search {
+    // The greatest rank that clock z of the part may have: 0 where its interval is not open, else as many as there are clocks.
+    fn last_rank(self, part: Region, z: usize) -> u8
+        requires { ⌜ Ready self ⌝ }
+        requires { ⌜ z < self .clocks .count ⌝ }
+        ensures { λ r. ⌜ r ≡ rank-limit (self .clocks .count) (at (self .clocks .bounds) z) (at (part .intervals) z) ⌝ }
+    {
+        let clocks = self.clocks;
+        if is_open(clocks.bounds[z], part.intervals[z]) {
+            return clocks.count;
+        }
+        0
+    }
+
+    // The greatest choice for number i of the part.
+    pub fn last_choice(self, part: Region, i: usize) -> u16
+        requires { ⌜ Ready self ⌝ }
+        requires { ⌜ (0 < i) × (i < 1 + 2 * self .clocks .count) ⌝ }
+        ensures { λ r. ⌜ Ends self part i r ⌝ }
+    {
+        let n = self.clocks.count as usize;
+        if i <= n {
+            let moves = self.moves;
+            let asked = moves.each[i - 1];
+            return asked.top;
+        }
+        self.last_rank(part, i - 1 - n) as u16
+    }
+
+    // The least choice from this one on for number i of the part, or more than the greatest: intervals that the clock's move does not permit are
+    // left out.
+    pub fn next_choice(self, part: Region, i: usize, from: u16) -> u16
+        requires { ⌜ Ready self ⌝ }
+        requires { ⌜ (0 < i) × (i < 1 + 2 * self .clocks .count) ⌝ }
+        ensures { λ r. ⌜ Skips self part i from r ⌝ }
+    {
+        let n = self.clocks.count as usize;
+        if i <= n {
+            let moves = self.moves;
+            let asked = moves.each[i - 1];
+            return asked.next_permitted(from);
+        }
+        if 0 < from {
+            return from;
+        }
+        if self.last_rank(part, i - 1 - n) == 0 {
+            return 0;
+        }
+        1
+    }
+
+    // Whether the ranks chosen so far have no positions, so that nothing can come of the part: seen before the next rank is chosen.
+    pub fn is_stuck(self, part: Region, i: usize) -> bool
+        requires { ⌜ Ready self ⌝ }
+        requires { ⌜ i ≤ 1 + 2 * self .clocks .count ⌝ }
+        ensures { λ r. ⌜ r ≡ stuckb self part i ⌝ }
+    {
+        let n = self.clocks.count as usize;
+        if i <= n + 1 {
+            return false;
+        }
+        let moves = self.moves;
+        !moves.are_placed(part, i - 1 - n)
+    }
+}

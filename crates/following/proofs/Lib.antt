@@ -1,0 +1,2 @@
+-- The laws of following, as the code goes.
+pub mod Laws

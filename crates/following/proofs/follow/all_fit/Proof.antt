@@ -1,0 +1,61 @@
+use native.Mathlib.Omega.{arith}
+use mathlib.Core.Path.{_≡_}
+use lib.ListN.{length}
+use borrow.Author.Tests.{not-true, not-false}
+use borrow.Author.Needs.{needs}
+use Rattle.following.specs.Following.{rows-led}
+use Rattle.following.proofs.Laws.FollowRows.{Counted, none-counted, all-counted, too-many, more-counted, led-listed}
+use Rattle.following.proofs.follow.all_fit.Statement.{statement}
+use Rattle.following.proofs.follow.all_fit.Tie as tie
+
+abbrev Inv-loop : tie.InvT-loop
+Inv-loop clocks from e room width floor₀ left₀ floor left = Counted (clocks .count) (rows-led clocks e from) room floor left
+
+abbrev μ-loop : tie.MeasureT-loop
+μ-loop clocks from e room width floor₀ left₀ floor left = left
+
+row-width-requires : tie.Need-row-width-requires Inv-loop μ-loop
+row-width-requires c κs = search needs
+
+loop-holds : tie.Need-loop-holds Inv-loop μ-loop
+loop-holds c = none-counted _ _ _ _
+
+next-region-requires : tie.Need-next-region-requires Inv-loop μ-loop
+next-region-requires c κs = let (S, E) = c .before .before .pre in (S .few, (E .few-guards, (S .is-row, E .bounded)))
+
+returns : tie.Need-returns Inv-loop μ-loop
+returns c = let a = c .before .before .before .before .before .args in
+    let four : length (a .clocks .bounds) ≡ 4 = search needs in
+    let L = led-listed (a .clocks) four (a .from) (c .before .before .before .before .before .pre .0) (a .e) (c .before .before .before .before .before .pre .1) in
+    all-counted _ _ L _ _ _ _ (c .before .before .before .loop .inv) (c .before .before .next-region .ensures) (not-true _ (c .if1 .taken))
+
+returns-2 : tie.Need-returns-2 Inv-loop μ-loop
+returns-2 c = let a = c .before .before .before .before .before .before .args in
+    let good = c .before .before .before .before .before .before .good in
+    let four : length (a .clocks .bounds) ≡ 4 = search needs in
+    let L = led-listed (a .clocks) four (a .from) (c .before .before .before .before .before .before .pre .0) (a .e) (c .before .before .before .before .before .before .pre .1) in
+    too-many _ _ L _ _ _ _ (c .before .before .before .before .loop .inv) (c .before .before .before .next-region .ensures) (not-false _ (c .before .if1 .left)) (omega (arith, c .before .before .before .before .before .row-width .ensures))
+
+loop-less : tie.Need-loop-less Inv-loop μ-loop
+loop-less c = omega (arith, c .before .before .before .before .before .row-width .ensures)
+
+loop-again : tie.Need-loop-again Inv-loop μ-loop
+loop-again c = let a = c .before .before .before .before .before .before .args in
+    let good = c .before .before .before .before .before .before .good in
+    let four : length (a .clocks .bounds) ≡ 4 = search needs in
+    let L = led-listed (a .clocks) four (a .from) (c .before .before .before .before .before .before .pre .0) (a .e) (c .before .before .before .before .before .before .pre .1) in
+    rw (c .before .before .before .before .before .row-width .ensures) (more-counted _ _ L _ _ _ _ (c .before .before .before .before .loop .inv) (c .before .before .before .next-region .ensures) (not-false _ (c .before .if1 .left)) (omega (arith, c .before .before .before .before .before .row-width .ensures)))
+
+pub all-fit-spec : {M : Type 1} → statement M
+all-fit-spec =
+    tie.close
+    (tie.spec
+    Inv-loop
+    μ-loop
+    row-width-requires
+    loop-holds
+    next-region-requires
+    returns
+    returns-2
+    loop-less
+    loop-again)

@@ -1,0 +1,118 @@
+use Prim.Native.Nat.{_-_}
+use native.Mathlib.Omega.{arith}
+use mathlib.Core.Path.{_≡_}
+use lib.ListN.{length, length-take, length-drop}
+use borrow.Author.Tests.{not-true, not-false}
+use borrow.Author.Needs.{needs}
+use Rattle.following.specs.Following.{rows-led}
+use Rattle.following.proofs.Laws.FollowRows.{Copied, none-copied, all-copied, room-next, wide-next, more-copied, led-listed}
+use Rattle.following.proofs.follow.write_all.Statement.{statement}
+use Rattle.following.proofs.follow.write_all.Tie as tie
+
+abbrev Inv-loop : tie.InvT-loop
+Inv-loop buffer₀ clocks from e width n floor₀ at₀ count₀ buffer floor at count = Copied (clocks .count) (rows-led clocks e from) buffer₀ buffer floor at count
+
+abbrev μ-loop : tie.MeasureT-loop
+μ-loop buffer₀ clocks from e width n floor₀ at₀ count₀ buffer floor at count = length buffer₀ - at
+
+row-width-requires : tie.Need-row-width-requires Inv-loop μ-loop
+row-width-requires c κs = search needs
+
+cast-n : tie.Need-cast-n Inv-loop μ-loop
+cast-n c = search needs
+
+loop-holds : tie.Need-loop-holds Inv-loop μ-loop
+loop-holds c = none-copied _ _ _ _
+
+next-region-requires : tie.Need-next-region-requires Inv-loop μ-loop
+next-region-requires c κs = let (S, (E, _)) = c .before .before .before .before .pre in (S .few, (E .few-guards, (S .is-row, E .bounded)))
+
+same-length : tie.Need-same-length Inv-loop μ-loop
+same-length c = search needs
+
+returns : tie.Need-returns Inv-loop μ-loop
+returns c = let a = c .before .before .before .before .before .before .before .args in
+    let good = c .before .before .before .before .before .before .before .good in
+    let four : length (a .clocks .bounds) ≡ 4 = search needs in
+    let L = led-listed (a .clocks) four (a .from) (c .before .before .before .before .before .before .before .pre .0) (a .e) (c .before .before .before .before .before .before .before .pre .1 .0) in
+    all-copied _ _ L _ _ _ _ _ _ (c .before .before .before .loop .inv) (c .before .before .next-region .ensures) (not-true _ (c .if1 .taken))
+
+sub-write-row : tie.Need-sub-write-row Inv-loop μ-loop
+sub-write-row c = let a = c .before .before .before .before .before .before .before .before .args in
+    let good = c .before .before .before .before .before .before .before .before .good in
+    let four : length (a .clocks .bounds) ≡ 4 = search needs in
+    let L = led-listed (a .clocks) four (a .from) (c .before .before .before .before .before .before .before .before .pre .0) (a .e) (c .before .before .before .before .before .before .before .before .pre .1 .0) in
+    let next = room-next _ _ L _ _ _ _ _ _ (c .before .before .before .before .loop .inv) (c .before .before .before .next-region .ensures) (not-false _ (c .before .if1 .left)) (c .before .before .before .before .before .before .before .before .pre .1 .1) in
+    omega arith
+
+part-write-row-start : tie.Need-part-write-row-start Inv-loop μ-loop
+part-write-row-start c = let a = c .before .before .before .before .before .before .before .before .args in
+    let good = c .before .before .before .before .before .before .before .before .good in
+    let four : length (a .clocks .bounds) ≡ 4 = search needs in
+    let L = led-listed (a .clocks) four (a .from) (c .before .before .before .before .before .before .before .before .pre .0) (a .e) (c .before .before .before .before .before .before .before .before .pre .1 .0) in
+    let next = room-next _ _ L _ _ _ _ _ _ (c .before .before .before .before .loop .inv) (c .before .before .before .next-region .ensures) (not-false _ (c .before .if1 .left)) (c .before .before .before .before .before .before .before .before .pre .1 .1) in
+    omega arith
+
+part-write-row-end : tie.Need-part-write-row-end Inv-loop μ-loop
+part-write-row-end c = search needs
+
+write-row-requires : tie.Need-write-row-requires Inv-loop μ-loop
+write-row-requires c κs = let a = c .before .before .before .before .before .before .before .before .before .args in
+    let good = c .before .before .before .before .before .before .before .before .before .good in
+    let four : length (a .clocks .bounds) ≡ 4 = search needs in
+    let L = led-listed (a .clocks) four (a .from) (c .before .before .before .before .before .before .before .before .before .pre .0) (a .e) (c .before .before .before .before .before .before .before .before .before .pre .1 .0) in
+    let next = room-next _ _ L _ _ _ _ _ _ (c .before .before .before .before .before .loop .inv) (c .before .before .before .before .next-region .ensures) (not-false _ (c .before .before .if1 .left)) (c .before .before .before .before .before .before .before .before .before .pre .1 .1) in
+    (omega (arith, c .before .before .before .before .before .before .before .before .before .pre .0 .few .few), (simp (length-take, length-drop) (omega arith), wide-next _ _ L _ _ _ _ _ _ (c .before .before .before .before .before .loop .inv) (c .before .before .before .before .next-region .ensures) (not-false _ (c .before .before .if1 .left)) (c .before .before .before .before .before .before .before .before .before .pre .1 .1)))
+
+add-at : tie.Need-add-at Inv-loop μ-loop
+add-at c = let a = c .before .before .before .before .before .before .before .before .before .before .before .before .args in
+    let good = c .before .before .before .before .before .before .before .before .before .before .before .before .good in
+    let four : length (a .clocks .bounds) ≡ 4 = search needs in
+    let L = led-listed (a .clocks) four (a .from) (c .before .before .before .before .before .before .before .before .before .before .before .before .pre .0) (a .e) (c .before .before .before .before .before .before .before .before .before .before .before .before .pre .1 .0) in
+    let next = room-next _ _ L _ _ _ _ _ _ (c .before .before .before .before .before .before .before .before .loop .inv) (c .before .before .before .before .before .before .before .next-region .ensures) (not-false _ (c .before .before .before .before .before .if1 .left)) (c .before .before .before .before .before .before .before .before .before .before .before .before .pre .1 .1) in
+    omega arith
+
+add-count : tie.Need-add-count Inv-loop μ-loop
+add-count c = let a = c .before .before .before .before .before .before .before .before .before .before .before .before .args in
+    let good = c .before .before .before .before .before .before .before .before .before .before .before .before .good in
+    let four : length (a .clocks .bounds) ≡ 4 = search needs in
+    let L = led-listed (a .clocks) four (a .from) (c .before .before .before .before .before .before .before .before .before .before .before .before .pre .0) (a .e) (c .before .before .before .before .before .before .before .before .before .before .before .before .pre .1 .0) in
+    let next = room-next _ _ L _ _ _ _ _ _ (c .before .before .before .before .before .before .before .before .loop .inv) (c .before .before .before .before .before .before .before .next-region .ensures) (not-false _ (c .before .before .before .before .before .if1 .left)) (c .before .before .before .before .before .before .before .before .before .before .before .before .pre .1 .1) in
+    omega arith
+
+loop-less : tie.Need-loop-less Inv-loop μ-loop
+loop-less c = let a = c .before .before .before .before .before .before .before .before .before .before .before .before .args in
+    let good = c .before .before .before .before .before .before .before .before .before .before .before .before .good in
+    let four : length (a .clocks .bounds) ≡ 4 = search needs in
+    let L = led-listed (a .clocks) four (a .from) (c .before .before .before .before .before .before .before .before .before .before .before .before .pre .0) (a .e) (c .before .before .before .before .before .before .before .before .before .before .before .before .pre .1 .0) in
+    let next = room-next _ _ L _ _ _ _ _ _ (c .before .before .before .before .before .before .before .before .loop .inv) (c .before .before .before .before .before .before .before .next-region .ensures) (not-false _ (c .before .before .before .before .before .if1 .left)) (c .before .before .before .before .before .before .before .before .before .before .before .before .pre .1 .1) in
+    omega arith
+
+loop-again : tie.Need-loop-again Inv-loop μ-loop
+loop-again c = let a = c .before .before .before .before .before .before .before .before .before .before .before .before .args in
+    let good = c .before .before .before .before .before .before .before .before .before .before .before .before .good in
+    let four : length (a .clocks .bounds) ≡ 4 = search needs in
+    let L = led-listed (a .clocks) four (a .from) (c .before .before .before .before .before .before .before .before .before .before .before .before .pre .0) (a .e) (c .before .before .before .before .before .before .before .before .before .before .before .before .pre .1 .0) in
+    let next = room-next _ _ L _ _ _ _ _ _ (c .before .before .before .before .before .before .before .before .loop .inv) (c .before .before .before .before .before .before .before .next-region .ensures) (not-false _ (c .before .before .before .before .before .if1 .left)) (c .before .before .before .before .before .before .before .before .before .before .before .before .pre .1 .1) in
+    rw (c .before .before .before .before .before .before .before .before .before .before .row-width .ensures) (more-copied _ _ L _ _ _ _ _ _ (c .before .before .before .before .before .before .before .before .loop .inv) (c .before .before .before .before .before .before .before .next-region .ensures) (not-false _ (c .before .before .before .before .before .if1 .left)) (c .before .before .before .before .before .before .before .before .before .before .before .before .pre .1 .1) _ (c .before .before .write-row .ensures))
+
+pub write-all-spec : {M : Type 1} → statement M
+write-all-spec =
+    tie.close
+    (tie.spec
+    Inv-loop
+    μ-loop
+    row-width-requires
+    cast-n
+    loop-holds
+    next-region-requires
+    same-length
+    returns
+    sub-write-row
+    part-write-row-start
+    part-write-row-end
+    write-row-requires
+    add-at
+    add-count
+    loop-less
+    loop-again)

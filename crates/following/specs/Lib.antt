@@ -1,0 +1,2 @@
+-- What the answers of following stand for.
+pub mod Following

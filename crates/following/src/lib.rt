@@ -1,0 +1,2 @@
+// Following one region.
+pub mod follow; // following one region

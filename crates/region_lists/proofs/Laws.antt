@@ -1,0 +1,16 @@
+-- The laws of the region-list check, as the code goes.
+-- the order of rows
+pub mod Ordered
+-- region lists
+pub mod Listed
+pub mod ListedNumbers
+pub mod ListRecords
+pub mod ListOrder
+pub mod SameNext
+pub mod Agreeing
+pub mod NextRows
+pub mod Stretch
+pub mod Kept
+pub mod RegionCheck
+-- the calls together
+pub mod RegionCall

@@ -1,0 +1,197 @@
+-- Whether the next rows of every row are in the list, as the code asks it: row by row, by waiting and edge by edge. Assumes nothing.
+use Prim.Native.Nat.{ℕ, zero, suc, _+_, _≤_, _<_}
+use native.Mathlib.Numerals.{add-one}
+use native.Mathlib.Decide.{ℕ-discrete}
+use native.Mathlib.Omega.{arith}
+use mathlib.Core.Path.{_≡_, refl, sym, ap, _∙_}
+use mathlib.Core.Bool.{Bool, true, false, _&&_}
+use mathlib.Core.Logic.{_↔_}
+use mathlib.Core.Option.{Option, none, some}
+use mathlib.Core.List.{List, [], _∷_}
+use lib.ListN.{length, getD}
+use lib.Dec.{eqb}
+use borrow.Author.Tests.{ne-eqb}
+use Rattle.automata.specs.Row.{Row, IsRow}
+use Rattle.automata.specs.Wait.{wait}
+use Rattle.automata.specs.Edge.{Edge, Bounded}
+use Rattle.automata.specs.Automaton.{Table, blank, edge}
+use Rattle.automata.specs.Closed.{Mem}
+use Rattle.automata.specs.Rows.{isrowb, rows-at, gather}
+use Rattle.automata.specs.Successors.{guardsb, placedb, leadsb, held, wait-rows, edge-rows}
+use Rattle.automata.specs.Checks.{every, has}
+use Rattle.regions.specs.Values.{bounds-of, row-of, region-of, sought, found-of, edge-of}
+use Rattle.regions.specs.declared.edge.Edge as edge-code
+use Rattle.regions.specs.declared.region.Region.{Region}
+use Rattle.regions.specs.declared.region.Sought.{Sought}
+use Rattle.automata.proofs.Laws.Tests.{never, and-law, fails, refutes}
+use Rattle.automata.proofs.Laws.Members.{gather-in, gather-out, getD-in, in-getD}
+use Rattle.automata.proofs.Laws.Waiting.{wait-row}
+use Rattle.automata.proofs.Laws.Checks.{has-law, every-law}
+use Rattle.table_files.specs.Admission.{table-of}
+use Rattle.tables.specs.Values.{Describes}
+use Rattle.table_records.specs.declared.head.Head.{Head}
+use Rattle.table_files.proofs.Laws.Reading.{itself}
+use Rattle.table_files.proofs.Laws.Admission.{admission-admitted}
+use Rattle.region_lists.specs.Listed.{listed-row, listed-rows}
+use Rattle.region_lists.specs.RegionList.{by-edges, NextListed}
+use Rattle.region_lists.specs.Leading.{reads-same, Kept}
+use Rattle.region_lists.proofs.Laws.SameNext.{select-none, same-rows}
+use Rattle.rows.proofs.Laws.RowRecords.{row-back}
+use Rattle.region_lists.proofs.Laws.Listed.{listed-length, listed-at, in-listed}
+
+-- one region that may be missing ---------------------------------------------------------------------------------------------------------
+
+-- rows of n clocks are what their regions stand for
+abbrev Sized : ℕ → Row → Type 0
+Sized n r = (length (r .intervals) ≡ n) × (length (r .ranks) ≡ n)
+
+row-sized : (c : List ℕ) (n : ℕ) (r : Row) → length c ≡ n → IsRow c r → Sized n r
+row-sized c n r e i = (i .intervals-length ∙ e, i .ranks-length ∙ e)
+
+-- what was sought, from the code's value
+data Came (n : ℕ) (o : Option Row) (s : Sought) : Type 0 where
+  nothing : o ≡ none → s .found ≡ false → Came n o s
+  something : (x : Row) → o ≡ some x → s .found ≡ true → row-of n (s .region) ≡ x → found-of n s ≡ some x → Came n o s
+
+came : (n : ℕ) (o : Option Row) (s : Sought) → s ≡ sought o → ((x : Row) → o ≡ some x → Sized n x) → Came n o s
+came n none s e z = nothing refl (ap (λ (t : Sought). t .found) e)
+came n (some x) s e z =
+    let (p, q) = z x refl in
+    let back : row-of n (region-of x) ≡ x = row-back n x p q in
+    something x refl (ap (λ (t : Sought). t .found) e) (ap (λ (t : Sought). row-of n (t .region)) e ∙ back) (ap (found-of n) e ∙ ap some back)
+
+and-true : (b : Bool) → b ≡ (b && true)
+and-true true = refl
+and-true false = refl
+
+-- waiting --------------------------------------------------------------------------------------------------------------------------------
+
+module _ (c : List ℕ) (n : ℕ) (sized : length c ≡ n) (p : Row → Bool) (r : Row) (R : IsRow c r) (s : Sought) (e : s ≡ sought (wait c r)) where
+  waited : Came n (wait c r) s
+  waited = came n (wait c r) s e (λ x q. row-sized c n x sized (wait-row c r x R q))
+
+  pub wait-found : s .found ≡ true → (b : Bool) → b ≡ p (row-of n (s .region)) → b ≡ every p (wait-rows c r)
+  unfolding wait-rows
+  wait-found f b q = go waited
+    where
+      go : Came n (wait c r) s → b ≡ every p (held (wait c r))
+      go (nothing _ g) = never (sym g ∙ f)
+      go (something x w _ back _) = rw w (q ∙ ap p back ∙ and-true (p x))
+
+  pub wait-missing : s .found ≡ false → true ≡ every p (wait-rows c r)
+  unfolding wait-rows
+  wait-missing f = go waited
+    where
+      go : Came n (wait c r) s → true ≡ every p (held (wait c r))
+      go (nothing w _) = rw w refl
+      go (something x w g _ _) = never (sym f ∙ g)
+
+-- an edge --------------------------------------------------------------------------------------------------------------------------------
+
+-- from another location it leads nowhere
+pub edge-elsewhere : (c : List ℕ) (e : Edge) (r : Row) (p : Row → Bool) → (r .location ≡ e .source → ⊥) → true ≡ every p (edge-rows c e r)
+unfolding edge-rows leadsb
+edge-elsewhere c e r p h =
+    ap (every p) (sym (select-none (leadsb c e r) (rows-at c (e .target)) (λ x. rw (ne-eqb (r .location) (e .source) h))))
+
+-- where a guard fails it leads nowhere
+pub edge-blocked : (c : List ℕ) (e : Edge) (r : Row) (p : Row → Bool) → guardsb r (e .guards) ≡ false → true ≡ every p (edge-rows c e r)
+unfolding edge-rows leadsb
+edge-blocked c e r p h =
+    ap (every p) (sym (select-none (leadsb c e r) (rows-at c (e .target)) (λ x. rw h (go (eqb (r .location) (e .source)) (eqb (x .location) (e .target)) (isrowb c x) (placedb c e r x)))))
+  where
+    go : (a b k l : Bool) → (a && b && false && k && l) ≡ false
+    go true true k l = refl
+    go true false k l = refl
+    go false b k l = refl
+
+-- from a row that agrees in what the edge reads with the one that it was walked from last, it leads into the list as from that one
+pub kept-same : (c : List ℕ) (n : ℕ) → length c ≡ n → (rows : List Row) (e : Edge) (walked : Sought) (r : Row) → Kept c n rows e walked
+    → (walked .found && reads-same n e (row-of n (walked .region)) r) ≡ true → r .location ≡ e .source → guardsb r (e .guards) ≡ true
+    → true ≡ every (has rows) (edge-rows c e r)
+kept-same c n sized rows e walked r kept same l g =
+    let (f, s) = and-law (walked .found) (reads-same n e (row-of n (walked .region)) r) (itself (walked .found)) (itself (reads-same n e (row-of n (walked .region)) r)) .0 same in
+    let k = kept f in
+    sym (k .inside) ∙ ap (every (has rows)) (same-rows c e (row-of n (walked .region)) r (rw sized s) (k .leaves ∙ sym l) (k .guarded ∙ sym g))
+
+-- row by row -----------------------------------------------------------------------------------------------------------------------------
+
+module _ (next : Row → List Row) (n : ℕ) (list : List ℕ) (count : ℕ) where
+  abbrev rows : List Row
+  rows = listed-rows n list count
+
+  -- the rows before row i have their next rows in the list
+  pub record NextTo (i : ℕ) : Type 0 where
+    pub within : i ≤ count
+    pub so-far : (j : ℕ) → j < i → every (has rows) (next (listed-row n list j)) ≡ true
+
+  pub next-begins : NextTo 0
+  next-begins = record { within = omega arith; so-far = λ j h. absurd (omega arith) }
+
+  module _ (i : ℕ) (S : NextTo i) where
+    pub next-on : i < count → every (has rows) (next (listed-row n list i)) ≡ true → NextTo (i + 1)
+    next-on l b = record { within = omega arith; so-far = λ j h. go j h (ℕ-discrete j i) }
+      where
+        go : (j : ℕ) → j < i + 1 → Dec (j ≡ i) → every (has rows) (next (listed-row n list j)) ≡ true
+        go j h (yes e) = rw e b
+        go j h (no e) = S .so-far j (omega arith)
+
+    pub next-fails : i < count → every (has rows) (next (listed-row n list i)) ≡ false → NextListed next rows (i + 1)
+    next-fails l b =
+        rw add-one (omega (arith, listed-length n list count), λ d. ap (λ (r : Row). every (has rows) (next r)) (listed-at n list count i d l) ∙ b)
+
+    pub next-all : count ≤ i → NextListed next rows 0
+    next-all l r m = let (j, h, e) = in-listed n list count r m in ap (λ (r : Row). every (has rows) (next r)) (sym e) ∙ S .so-far j (omega arith)
+
+-- edge by edge ---------------------------------------------------------------------------------------------------------------------------
+
+module _ (T : Table) (rows : List Row) where
+  -- the edges before edge k lead into the list
+  pub record EdgesTo (k : ℕ) : Type 0 where
+    pub within : k ≤ length (T .edges)
+    pub so-far : (j : ℕ) → j < k → NextListed (edge-rows (T .bounds) (edge T j)) rows 0
+
+  pub edges-begin : EdgesTo 0
+  edges-begin = record { within = omega arith; so-far = λ j h. absurd (omega arith) }
+
+  all-listed : (xs : List Row) → (every (has rows) xs ≡ true) ↔ ((x : Row) → Mem x xs → Mem x rows)
+  all-listed xs = every-law (has rows) (has-law rows) xs
+
+  module _ (k : ℕ) (S : EdgesTo k) where
+    pub edges-on : k < length (T .edges) → NextListed (edge-rows (T .bounds) (edge T k)) rows 0 → EdgesTo (k + 1)
+    edges-on l b = record { within = omega arith; so-far = λ j h. go j h (ℕ-discrete j k) }
+      where
+        go : (j : ℕ) → j < k + 1 → Dec (j ≡ k) → NextListed (edge-rows (T .bounds) (edge T j)) rows 0
+        go j h (yes e) = rw e b
+        go j h (no e) = S .so-far j (omega arith)
+
+    -- an edge that leads out of the list is one of all the edges
+    pub edges-fail : k < length (T .edges) → (place : ℕ) → (place ≡ 0 → ⊥) → NextListed (edge-rows (T .bounds) (edge T k)) rows place → NextListed (by-edges T) rows place
+    edges-fail l zero z b = absurd (z refl)
+    edges-fail l (suc i) z (h, b) = (h, λ d. out (getD rows i d) (b d))
+      where
+        out : (r : Row) → every (has rows) (edge-rows (T .bounds) (edge T k) r) ≡ false → every (has rows) (by-edges T r) ≡ false
+        out r f =
+            fails (every (has rows) (by-edges T r)) (all-listed (by-edges T r)) (λ inside.
+            refutes (every (has rows) (edge-rows (T .bounds) (edge T k) r)) (all-listed (edge-rows (T .bounds) (edge T k) r)) f
+            (λ x m. inside x (gather-in (λ (e : Edge). edge-rows (T .bounds) e r) (getD-in (T .edges) k blank l) m)))
+
+    pub edges-all : length (T .edges) ≤ k → NextListed (by-edges T) rows 0
+    edges-all l r m =
+        all-listed (by-edges T r) .1 (λ x h.
+        let (e, a, b) = gather-out (λ (e : Edge). edge-rows (T .bounds) e r) (T .edges) h in
+        let (j, i, q) = in-getD blank a in
+        all-listed (edge-rows (T .bounds) (edge T j) r) .0 (S .so-far j (omega arith) r m) x (rw q b))
+
+-- the edge that the code reads is the table's
+module _ (table : List ℕ) (head : Head) (D : Describes table head) (k : ℕ) (l : k < head .edges) (e : edge-code.Edge)
+    (means : edge-of (head .clocks .count) e ≡ edge (table-of table) k) where
+  pub edge-there : k < length (table-of table .edges)
+  edge-there = omega (arith, D .edges)
+
+  pub edge-bounded : Bounded (bounds-of (head .clocks)) (edge-of (head .clocks .count) e)
+  edge-bounded = let (records, p) = D .passes in rw (D .bounds, means) (admission-admitted table records p .bounded k edge-there)
+
+  pub edge-rule : (rows : List Row) (place : ℕ) → NextListed (edge-rows (bounds-of (head .clocks)) (edge-of (head .clocks .count) e)) rows place
+      → NextListed (edge-rows (table-of table .bounds) (edge (table-of table) k)) rows place
+  edge-rule rows place h = rw (D .bounds, means) at h

@@ -1,0 +1,100 @@
+-- The rows of a location stand together in an ascending list. Assumes nothing.
+use Prim.Native.Nat.{ℕ, zero, suc, _≤_, _<_}
+use native.Mathlib.Decide.{decLe}
+use native.Mathlib.Omega.{arith}
+use mathlib.Core.Path.{_≡_, refl, sym, ap, _∙_}
+use mathlib.Core.Bool.{Bool, true, false}
+use mathlib.Core.Logic.{_⊎_, inl, inr}
+use mathlib.Core.List.{List, [], _∷_}
+use lib.ListN.{length, take, replicate}
+use Rattle.automata.specs.Row.{Row, Before, Below}
+use Rattle.automata.specs.Edge.{Edge}
+use Rattle.automata.specs.Closed.{Ascends}
+use Rattle.automata.specs.Successors.{edge-rows}
+use Rattle.automata.specs.Checks.{belowb, every, has}
+use Rattle.regions.specs.Values.{row-of}
+use Rattle.regions.specs.declared.region.Region.{Region}
+use Rattle.automata.proofs.Laws.Order.{Tri, is-lt, is-eq, is-gt, tri}
+use Rattle.automata.proofs.Laws.Tests.{refutes}
+use Rattle.regions.proofs.Laws.Values.{length-first}
+use Rattle.automata.proofs.Laws.Checks.{belowb-law}
+use Rattle.region_lists.specs.Listed.{listed-row, listed-rows, Splits}
+use Rattle.region_lists.specs.RegionList.{NextListed}
+use Rattle.region_lists.specs.Leading.{Starts}
+use Rattle.region_lists.proofs.Laws.Listed.{listed-rise}
+use Rattle.region_lists.proofs.Laws.ListedNumbers.{intervals-long, ranks-long}
+use Rattle.region_lists.proofs.Laws.NextRows.{NextTo, next-all, edge-elsewhere}
+
+-- the least row of a location ------------------------------------------------------------------------------------------------------------
+
+abbrev pub least-in : ℕ → Region
+least-in l = record { location = l; intervals = replicate 4 0; ranks = replicate 4 0 }
+
+-- no list of numbers is before zeros of its length
+not-before-zeros : (xs : List ℕ) (n m : ℕ) → Before xs (take n (replicate m 0)) → length {A = ℕ} (take n (replicate m 0)) ≤ length xs → ⊥
+not-before-zeros xs zero m b h = go xs b
+  where
+    go : (xs : List ℕ) → Before xs [] → ⊥
+    go [] b = b
+    go (x ∷ xs) b = b
+not-before-zeros xs (suc n) zero b h = go xs b
+  where
+    go : (xs : List ℕ) → Before xs [] → ⊥
+    go [] b = b
+    go (x ∷ xs) b = b
+not-before-zeros [] (suc n) (suc m) b h = omega arith
+not-before-zeros (x ∷ xs) (suc n) (suc m) (inl b) h = omega arith
+not-before-zeros (x ∷ xs) (suc n) (suc m) (inr (_, b)) h = not-before-zeros xs n m b (omega arith)
+
+-- only rows of the locations before are below it
+below-least : (r : Row) (n l : ℕ) → n ≤ 4 → length (r .intervals) ≡ n → length (r .ranks) ≡ n → Below r (row-of n (least-in l)) → r .location < l
+below-least r n l few p q (inl b) = b
+below-least r n l few p q (inr (_, inl b)) =
+    absurd (not-before-zeros (r .intervals) n 4 b (let z : length {A = ℕ} (take n (replicate 4 0)) ≡ n = length-first n (replicate 4 0) few refl in omega arith))
+below-least r n l few p q (inr (_, inr (_, b))) =
+    absurd (not-before-zeros (r .ranks) n 4 b (let z : length {A = ℕ} (take n (replicate 4 0)) ≡ n = length-first n (replicate 4 0) few refl in omega arith))
+
+below-location : (r s : Row) → Below r s → r .location ≤ s .location
+below-location r s (inl b) = omega arith
+below-location r s (inr (e, _)) = omega arith
+
+-- where the rows of a location start -----------------------------------------------------------------------------------------------------
+
+module _ (n : ℕ) (list : List ℕ) (count : ℕ) where
+  pub starts : (l m : ℕ) → n ≤ 4 → Splits (listed-row n list) count (row-of n (least-in l)) m → Starts n list count l m
+  starts l m few S = record { within = S .within; before = before; others = others }
+    where
+      before : (i : ℕ) → i < m → listed-row n list i .location < l
+      before i h =
+          below-least (listed-row n list i) n l few (intervals-long n list i) (ranks-long n list i)
+          (belowb-law (listed-row n list i) (row-of n (least-in l)) .0 (S .below i h))
+
+      others : (i : ℕ) → m ≤ i → i < count → l ≤ listed-row n list i .location
+      others i h k = go (decLe l (listed-row n list i .location))
+        where
+          go : Dec (l ≤ listed-row n list i .location) → l ≤ listed-row n list i .location
+          go (yes g) = g
+          go (no g) =
+              absurd (refutes (belowb (listed-row n list i) (row-of n (least-in l))) (belowb-law (listed-row n list i) (row-of n (least-in l))) (S .others i h k) (inl (omega arith)))
+
+  -- an edge leads nowhere from the rows before those of its source, and from those after them
+  module _ (c : List ℕ) (e : Edge) (m : ℕ) (S : Starts n list count (e .source) m) where
+    from-elsewhere : (j : ℕ) → (listed-row n list j .location ≡ e .source → ⊥)
+        → every (has (listed-rows n list count)) (edge-rows c e (listed-row n list j)) ≡ true
+    from-elsewhere j h = sym (edge-elsewhere c e (listed-row n list j) (has (listed-rows n list count)) h)
+
+    pub stretch-begins : NextTo (edge-rows c e) n list count m
+    stretch-begins = record { within = S .within; so-far = λ j h. from-elsewhere j (λ q. omega (arith, S .before j h)) }
+
+    pub stretch-ends : Ascends (listed-rows n list count) → (i : ℕ) → NextTo (edge-rows c e) n list count i → m ≤ i → i < count
+        → (listed-row n list i .location ≡ e .source → ⊥) → NextListed (edge-rows c e) (listed-rows n list count) 0
+    stretch-ends a i N h l d = next-all (edge-rows c e) n list count count (record { within = omega arith; so-far = λ j k. go j k (tri j i) }) (omega arith)
+      where
+        past : e .source < listed-row n list i .location
+        past = omega (arith, S .others i h l, d)
+
+        go : (j : ℕ) → j < count → Tri j i → every (has (listed-rows n list count)) (edge-rows c e (listed-row n list j)) ≡ true
+        go j k (is-lt g _) = N .so-far j g
+        go j k (is-eq g _) = from-elsewhere j (λ q. d (ap (λ (x : ℕ). listed-row n list x .location) (sym g) ∙ q))
+        go j k (is-gt g _) =
+            from-elsewhere j (λ q. omega (arith, past, below-location (listed-row n list i) (listed-row n list j) (listed-rise n list count a i j g k)))

@@ -1,0 +1,30 @@
+use Rattle.region_lists.proofs.Laws.ListedNumbers.{listed-same}
+use lib.Dec.{eqb}
+use Prim.Native.Nat.{ℕ, _+_, _*_}
+use mathlib.Core.Path.{_≡_, sym, ap, _∙_}
+use denote.Ref.{now}
+use borrow.Author.Needs.{needs}
+use Rattle.region_lists.proofs.listed.row_is.Statement.{statement}
+use Rattle.region_lists.proofs.listed.row_is.Tie as tie
+use Rattle.region_lists.proofs.listed.row_is.Reads as reads
+use Rattle.region_lists.proofs.listed.row_is.Lts as lts
+use Rattle.region_lists.proofs.listed.shared_with.Reads as shared-with-reads
+
+-- src/listed.rt:65:5
+shared-with-requires : tie.Need-shared-with-requires
+shared-with-requires c κs = search needs
+
+-- src/listed.rt:65:44
+mul-result : tie.Need-mul-result
+mul-result c = search needs
+
+-- src/listed.rt:65:40
+add-result : tie.Need-add-result
+add-result c = search needs
+
+-- src/listed.rt:60:1
+returns : tie.Need-returns
+returns c = let a = c .before .before .args in ap (λ (k : ℕ). eqb k (1 + 2 * a .n)) (c .shared-with .ensures) ∙ listed-same (a .n) (now (a .list)) (a .i) (a .wanted) (search needs) (search needs, search needs)
+
+pub row-is-spec : {M : Type 1} → statement M
+row-is-spec = tie.close (tie.spec shared-with-requires mul-result add-result returns)

@@ -1,0 +1,4 @@
+-- The rows of a list by their numbers, and what an edge reads of a region.
+pub mod Listed
+pub mod RegionList
+pub mod Leading

@@ -1,0 +1,194 @@
+// Whether a region list has the rows that the edges lead to from each of its rows: refusal 17.
+ghost use mathlib.Core.Path.{_≡_};
+ghost use mathlib.Core.Bool.{true};
+ghost use Prim.Native.Nat.{_≤_, _<_};
+ghost use Rattle.automata.specs.Row.{IsRow};
+ghost use Rattle.automata.specs.Edge.{Bounded};
+ghost use Rattle.automata.specs.Closed.{Ascends};
+ghost use Rattle.automata.specs.Successors.{guardsb, edge-rows};
+ghost use Rattle.regions.specs.Image.{deterministic};
+ghost use Rattle.automata.specs.Checks.{every, has};
+ghost use Rattle.regions.specs.Values.{bounds-of, row-of, edge-of};
+ghost use Rattle.table_files.specs.Admission.{table-of};
+ghost use Rattle.tables.specs.Values.{Describes};
+ghost use Rattle.region_lists.specs.Listed.{listed-rows, Listed};
+ghost use Rattle.region_lists.specs.RegionList.{by-edges, NextListed};
+ghost use Rattle.region_lists.specs.Leading.{Kept, Starts};
+use crate::inside::leads_inside;
+use crate::listed::Found;
+use crate::listed::find;
+use crate::listed::row_at;
+use crate::listed::rows_below;
+use crate::reading::reads_same;
+use crate::reading::slot;
+use regions::edge::Edge;
+use regions::image::is_deterministic;
+use regions::region::Clocks;
+use regions::region::Region;
+use regions::region::Sought;
+use regions::region::missing;
+use table_records::head::Head;
+use tables::admission::edge_at;
+
+// Whether the edge leads from a region into the list, where it was looked up last, and the region that the edge was walked from.
+struct Turn {
+    inside: bool,
+    at: usize,
+    walked: Sought,
+}
+
+// Whether every region that an edge leads to from one in its source location, where its guards hold, is in the list. A deterministic edge leads to
+// one at most, which needs no walk.
+fn leads_into(
+    list: &[u8],
+    clocks: Clocks,
+    count: usize,
+    e: Edge,
+    sole: bool,
+    from: Region,
+    hint: usize,
+) -> Found
+    requires { ⌜ Listed clocks (now list) count ⌝ }
+    requires { ⌜ Ascends (listed-rows (clocks .count) (now list) count) ⌝ }
+    requires { ⌜ Bounded (bounds-of clocks) (edge-of (clocks .count) e) ⌝ }
+    requires { ⌜ sole ≡ deterministic (clocks .count) (edge-of (clocks .count) e) ⌝ }
+    requires { ⌜ IsRow (bounds-of clocks) (row-of (clocks .count) from) ⌝ }
+    requires { ⌜ from .location ≡ e .source ⌝ }
+    requires { ⌜ guardsb (row-of (clocks .count) from) (edge-of (clocks .count) e .guards) ≡ true ⌝ }
+    ensures { λ r. ⌜ r .listed ≡ every (has (listed-rows (clocks .count) (now (list .entry)) count)) (edge-rows (bounds-of clocks) (edge-of (clocks .count) e) (row-of (clocks .count) from)) ⌝ }
+{
+    if !sole {
+        return leads_inside(list, clocks, count, e, from, hint);
+    }
+    let next = from.image(clocks, e);
+    if !next.found {
+        return Found {
+            listed: true,
+            at: hint,
+        };
+    }
+    let region = next.region;
+    find(list, clocks, count, region, hint)
+}
+
+// The same where the guards may fail. The edge is not followed from a region that has the numbers that it reads in common with one that it was
+// followed from before.
+fn leads_on(
+    list: &[u8],
+    clocks: Clocks,
+    count: usize,
+    e: Edge,
+    sole: bool,
+    walked: Sought,
+    from: Region,
+    hint: usize,
+) -> Turn
+    requires { ⌜ Listed clocks (now list) count ⌝ }
+    requires { ⌜ Ascends (listed-rows (clocks .count) (now list) count) ⌝ }
+    requires { ⌜ e .«guard_count» ≤ 8 ⌝ }
+    requires { ⌜ Bounded (bounds-of clocks) (edge-of (clocks .count) e) ⌝ }
+    requires { ⌜ sole ≡ deterministic (clocks .count) (edge-of (clocks .count) e) ⌝ }
+    requires { ⌜ Kept (bounds-of clocks) (clocks .count) (listed-rows (clocks .count) (now list) count) (edge-of (clocks .count) e) walked ⌝ }
+    requires { ⌜ IsRow (bounds-of clocks) (row-of (clocks .count) from) ⌝ }
+    requires { ⌜ from .location ≡ e .source ⌝ }
+    ensures answer { λ r. ⌜ r .inside ≡ every (has (listed-rows (clocks .count) (now (list .entry)) count)) (edge-rows (bounds-of clocks) (edge-of (clocks .count) e) (row-of (clocks .count) from)) ⌝ }
+    ensures kept { λ r. ⌜ Kept (bounds-of clocks) (clocks .count) (listed-rows (clocks .count) (now (list .entry)) count) (edge-of (clocks .count) e) (r .walked) ⌝ }
+{
+    if !from.guards_hold(clocks, e) {
+        return Turn {
+            inside: true,
+            at: hint,
+            walked: walked,
+        };
+    }
+    if reads_same(clocks, e, walked, from) {
+        return Turn {
+            inside: true,
+            at: hint,
+            walked: walked,
+        };
+    }
+    let found = leads_into(list, clocks, count, e, sole, from, hint);
+    if !found.listed {
+        return Turn {
+            inside: false,
+            at: hint,
+            walked: walked,
+        };
+    }
+    Turn {
+        inside: true,
+        at: found.at,
+        walked: Sought {
+            found: true,
+            region: from,
+        },
+    }
+}
+
+// How many rows are in the locations before this one.
+fn rows_before(list: &[u8], clocks: Clocks, count: usize, location: u8) -> usize
+    requires { ⌜ Listed clocks (now list) count ⌝ }
+    requires { ⌜ Ascends (listed-rows (clocks .count) (now list) count) ⌝ }
+    ensures { λ r. ⌜ Starts (clocks .count) (now (list .entry)) count location r ⌝ }
+{
+    let least = Region {
+        location: location,
+        intervals: [0; 4],
+        ranks: [0; 4],
+    };
+    rows_below(list, clocks, count, least, 0)
+}
+
+// The place of a row that lacks a next row by this edge, or 0. Rows ascend, so those in the edge's source location stand together. The regions
+// that the edge was walked from are kept in slots, by the numbers that it reads: in each slot the last.
+fn lacks_by_edge(list: &[u8], clocks: Clocks, count: usize, e: Edge) -> u16
+    requires { ⌜ Listed clocks (now list) count ⌝ }
+    requires { ⌜ Ascends (listed-rows (clocks .count) (now list) count) ⌝ }
+    requires { ⌜ e .«guard_count» ≤ 8 ⌝ }
+    requires { ⌜ Bounded (bounds-of clocks) (edge-of (clocks .count) e) ⌝ }
+    ensures { λ r. ⌜ NextListed (edge-rows (bounds-of clocks) (edge-of (clocks .count) e)) (listed-rows (clocks .count) (now (list .entry)) count) r ⌝ }
+{
+    let n = clocks.count as usize;
+    let sole = is_deterministic(clocks, e);
+    let mut walked = [missing(); 64];
+    let mut i = rows_before(list, clocks, count, e.source);
+    let mut hint = rows_before(list, clocks, count, e.target);
+    while i < count {
+        let row = row_at(list, n, i);
+        if row.location != e.source {
+            return 0;
+        }
+        let k = slot(e, row);
+        let last = walked[k];
+        let turn = leads_on(list, clocks, count, e, sole, last, row, hint);
+        if !turn.inside {
+            return (i + 1) as u16;
+        }
+        hint = turn.at;
+        let kept = turn.walked;
+        walked[k] = kept;
+        i += 1;
+    }
+    0
+}
+
+// The place of a row that lacks a next row by some edge, or 0: edge by edge, so that each is read once.
+pub fn lacks_by_edges(table: &[u8], head: Head, list: &[u8], count: usize) -> u16
+    requires { ⌜ Describes (now table) head ⌝ }
+    requires { ⌜ Listed (head .clocks) (now list) count ⌝ }
+    requires { ⌜ Ascends (listed-rows (head .clocks .count) (now list) count) ⌝ }
+    ensures { λ r. ⌜ NextListed (by-edges (table-of (now (table .entry)))) (listed-rows (head .clocks .count) (now (list .entry)) count) r ⌝ }
+{
+    let clocks = head.clocks;
+    let mut k = 0;
+    while k < head.edges {
+        let e = edge_at(table, head, k);
+        let place = lacks_by_edge(list, clocks, count, e);
+        if place != 0 {
+            return place;
+        }
+        k += 1;
+    }
+    0
+}

@@ -1,0 +1,154 @@
+// The rows of a region list whose records were read: each is read again from its bytes, by value, as often as it is wanted.
+ghost use mathlib.Core.Path.{_≡_};
+ghost use Prim.Native.Nat.{_+_, _*_, _≤_, _<_};
+ghost use lib.ListN.{length};
+ghost use Rattle.regions.specs.Order.{numbers, shared};
+ghost use Rattle.automata.specs.Closed.{Ascends};
+ghost use Rattle.automata.specs.Checks.{same-row, belowb, has};
+ghost use Rattle.regions.specs.Values.{row-of, region-of};
+ghost use Rattle.region_lists.specs.Listed.{listed-row, listed-rows, Listed, Splits};
+use regions::region::Clocks;
+use regions::region::Region;
+use rows::row::region_in;
+use rows::row::wide;
+
+// Row i, counted from 0, of a list of rows of n clocks.
+pub fn row_at(list: &[u8], n: usize, i: usize) -> Region
+    requires { ⌜ n ≤ 4 ⌝ }
+    requires { ⌜ 4 + i * (3 + 2 * n) + (3 + 2 * n) ≤ length (now list) ⌝ }
+    ensures { λ r. ⌜ r ≡ region-of (listed-row n (now (list .entry)) i) ⌝ }
+{
+    let size = 3 + 2 * n;
+    let at = 4 + i * size;
+    region_in(&list[at..at + size], n)
+}
+
+// The location of row i.
+pub fn location_at(list: &[u8], n: usize, i: usize) -> u8
+    requires { ⌜ n ≤ 4 ⌝ }
+    requires { ⌜ 4 + i * (3 + 2 * n) + (3 + 2 * n) ≤ length (now list) ⌝ }
+    ensures { λ r. ⌜ r ≡ listed-row n (now (list .entry)) i .location ⌝ }
+{
+    list[6 + i * (3 + 2 * n)]
+}
+
+// How many numbers of row i and of a region are the same before they differ. A row's numbers stand in its bytes, after the mark, in the order
+// in which regions are compared, so nothing is copied.
+fn shared_with(list: &[u8], n: usize, i: usize, wanted: Region) -> usize
+    requires { ⌜ n ≤ 4 ⌝ }
+    requires { ⌜ 4 + i * (3 + 2 * n) + (3 + 2 * n) ≤ length (now list) ⌝ }
+    ensures { λ r. ⌜ r ≡ shared (numbers (listed-row n (now (list .entry)) i)) (numbers (row-of n wanted)) ⌝ }
+{
+    let at = 6 + i * (3 + 2 * n);
+    let all = 1 + 2 * n;
+    let mut j = 0;
+    while j < all {
+        if wide(list[at + j]) != wanted.number(n, j) {
+            return j;
+        }
+        j += 1;
+    }
+    all
+}
+
+// Whether row i comes before a region.
+pub fn row_is_below(list: &[u8], n: usize, i: usize, wanted: Region) -> bool
+    requires { ⌜ n ≤ 4 ⌝ }
+    requires { ⌜ 4 + i * (3 + 2 * n) + (3 + 2 * n) ≤ length (now list) ⌝ }
+    ensures { λ r. ⌜ r ≡ belowb (listed-row n (now (list .entry)) i) (row-of n wanted) ⌝ }
+{
+    let j = shared_with(list, n, i, wanted);
+    if 1 + 2 * n <= j {
+        return false;
+    }
+    let at = 6 + i * (3 + 2 * n);
+    wide(list[at + j]) < wanted.number(n, j)
+}
+
+// Whether row i is a region's.
+fn row_is(list: &[u8], n: usize, i: usize, wanted: Region) -> bool
+    requires { ⌜ n ≤ 4 ⌝ }
+    requires { ⌜ 4 + i * (3 + 2 * n) + (3 + 2 * n) ≤ length (now list) ⌝ }
+    ensures { λ r. ⌜ r ≡ same-row (listed-row n (now (list .entry)) i) (row-of n wanted) ⌝ }
+{
+    shared_with(list, n, i, wanted) == 1 + 2 * n
+}
+
+// Where to look next between low and high: at the hint, then from it in steps that double, then by halves. What is looked up mostly stands
+// near what was looked up before.
+fn guess(low: usize, high: usize, hint: usize) -> usize
+    requires { ⌜ low < high ⌝ }
+    ensures { λ r. ⌜ (low ≤ r) × (r < high) ⌝ }
+{
+    if hint < low {
+        let step = low - hint - 1;
+        if step < high - low {
+            return low + step;
+        }
+        return low + (high - low) / 2;
+    }
+    if hint < high {
+        return hint;
+    }
+    let step = hint - high;
+    if step < high - low {
+        return high - 1 - step;
+    }
+    low + (high - low) / 2
+}
+
+// How many of the ascending rows are below a region, looked for from a hint on.
+pub fn rows_below(list: &[u8], clocks: Clocks, count: usize, wanted: Region, hint: usize) -> usize
+    requires { ⌜ Listed clocks (now list) count ⌝ }
+    requires { ⌜ Ascends (listed-rows (clocks .count) (now list) count) ⌝ }
+    ensures { λ r. ⌜ Splits (listed-row (clocks .count) (now (list .entry))) count (row-of (clocks .count) wanted) r ⌝ }
+{
+    let n = clocks.count as usize;
+    let mut low = 0;
+    let mut high = count;
+    while low < high {
+        let middle = guess(low, high, hint);
+        if row_is_below(list, n, middle, wanted) {
+            low = middle + 1;
+        } else {
+            high = middle;
+        }
+    }
+    low
+}
+
+// Whether a region was found among the rows, and where it stands or would stand.
+pub struct Found {
+    pub listed: bool,
+    pub at: usize,
+}
+
+// Whether a region is among the ascending rows, looked for from a hint on.
+pub fn find(list: &[u8], clocks: Clocks, count: usize, wanted: Region, hint: usize) -> Found
+    requires { ⌜ Listed clocks (now list) count ⌝ }
+    requires { ⌜ Ascends (listed-rows (clocks .count) (now list) count) ⌝ }
+    ensures { λ r. ⌜ r .listed ≡ has (listed-rows (clocks .count) (now (list .entry)) count) (row-of (clocks .count) wanted) ⌝ }
+{
+    let i = rows_below(list, clocks, count, wanted, hint);
+    if i == count {
+        return Found {
+            listed: false,
+            at: i,
+        };
+    }
+    let n = clocks.count as usize;
+    Found {
+        listed: row_is(list, n, i, wanted),
+        at: i,
+    }
+}
+
+// Whether a region is among the ascending rows.
+pub fn is_listed(list: &[u8], clocks: Clocks, count: usize, wanted: Region) -> bool
+    requires { ⌜ Listed clocks (now list) count ⌝ }
+    requires { ⌜ Ascends (listed-rows (clocks .count) (now list) count) ⌝ }
+    ensures { λ r. ⌜ r ≡ has (listed-rows (clocks .count) (now (list .entry)) count) (row-of (clocks .count) wanted) ⌝ }
+{
+    let found = find(list, clocks, count, wanted, 0);
+    found.listed
+}

@@ -1,0 +1,2 @@
+-- The laws of row records, as the code goes.
+pub mod Laws

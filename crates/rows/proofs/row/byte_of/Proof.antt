@@ -1,0 +1,26 @@
+use borrow.Author.Tests.{lt-ltb, le-ltb}
+use mathlib.Core.Path.{refl}
+use borrow.Author.Needs.{needs}
+use Rattle.rows.proofs.row.byte_of.Statement.{statement}
+use Rattle.rows.proofs.row.byte_of.Tie as tie
+use Rattle.rows.proofs.row.byte_of.Reads as reads
+use Rattle.rows.proofs.row.byte_of.Lts as lts
+
+-- src/row.rt:39:22
+add-result : tie.Need-add-result
+add-result c = search needs
+
+-- src/row.rt:39:16
+shared-slice-read-result : tie.Need-shared-slice-read-result
+shared-slice-read-result c = search needs
+
+-- src/row.rt:39:9
+returns : tie.Need-returns
+returns c = rw (lt-ltb _ _ (c .before .if1 .taken)) refl
+
+-- src/row.rt:34:1
+returns-2 : tie.Need-returns-2
+returns-2 c = rw (le-ltb _ _ (c .if1 .left)) refl
+
+pub byte-of-spec : {M : Type 1} → statement M
+byte-of-spec = tie.close (tie.spec add-result shared-slice-read-result returns returns-2)

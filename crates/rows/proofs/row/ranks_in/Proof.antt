@@ -1,0 +1,32 @@
+use Rattle.regions.proofs.Laws.Filling.{four-filled}
+use borrow.Author.Needs.{needs}
+use Rattle.rows.proofs.row.ranks_in.Statement.{statement}
+use Rattle.rows.proofs.row.ranks_in.Tie as tie
+use Rattle.rows.proofs.row.ranks_in.Reads as reads
+use Rattle.rows.proofs.row.ranks_in.Lts as lts
+use Rattle.rows.proofs.row.byte_of.Reads as byte-of-reads
+
+-- src/row.rt:61:9
+byte-of-requires : tie.Need-byte-of-requires
+byte-of-requires c κs = search needs
+
+-- src/row.rt:62:9
+byte-of-requires-2 : tie.Need-byte-of-requires-2
+byte-of-requires-2 c κs = search needs
+
+-- src/row.rt:63:9
+byte-of-requires-3 : tie.Need-byte-of-requires-3
+byte-of-requires-3 c κs = search needs
+
+-- src/row.rt:64:9
+byte-of-requires-4 : tie.Need-byte-of-requires-4
+byte-of-requires-4 c κs = search needs
+
+-- src/row.rt:57:1
+returns : tie.Need-returns
+returns c = four-filled _ _ (c .before .before .before .before .before .pre .0) _ _ _ _ (c .before .before .before .byte-of .ensures) (c .before .before .byte-of2 .ensures) (c .before .byte-of3 .ensures) (c .byte-of4 .ensures)
+
+pub ranks-in-spec : {M : Type 1} → statement M
+ranks-in-spec =
+    tie.close
+    (tie.spec byte-of-requires byte-of-requires-2 byte-of-requires-3 byte-of-requires-4 returns)

@@ -1,0 +1,66 @@
+use Prim.Native.Nat.{_≤_, _-_}
+use native.Mathlib.Omega.{arith}
+use mathlib.Core.List.{_++_}
+use mathlib.Core.Path.{_≡_}
+use lib.ListN.{length-set}
+use lib.ListN.{length, take, drop}
+use borrow.Author.Needs.{needs}
+use Rattle.rows.proofs.Laws.Writing.{copy-next}
+use Rattle.rows.proofs.row_writer.write_intervals.Statement.{statement}
+use Rattle.rows.proofs.row_writer.write_intervals.Tie as tie
+
+abbrev Inv-loop : tie.InvT-loop
+Inv-loop out₀ n intervals z₀ out z = (z ≤ n) × (out ≡ take z intervals ++ drop z out₀) × (length out ≡ length out₀)
+
+abbrev μ-loop : tie.MeasureT-loop
+μ-loop out₀ n intervals z₀ out z = n - z
+
+loop-holds : tie.Need-loop-holds Inv-loop μ-loop
+loop-holds c = search needs
+
+mul-out : tie.Need-mul-out Inv-loop μ-loop
+mul-out c = search needs
+
+array-read-out : tie.Need-array-read-out Inv-loop μ-loop
+array-read-out c = search needs
+
+cast-out : tie.Need-cast-out Inv-loop μ-loop
+cast-out c = omega (arith, c .before .before .pre .1 .1 _ (c .loop-test .taken))
+
+slice-write-out : tie.Need-slice-write-out Inv-loop μ-loop
+slice-write-out c = search needs
+
+add-z : tie.Need-add-z Inv-loop μ-loop
+add-z c = search needs
+
+loop-less : tie.Need-loop-less Inv-loop μ-loop
+loop-less c = search needs
+
+loop-again : tie.Need-loop-again Inv-loop μ-loop
+loop-again c = let long : length (c .before .before .args .t3) ≡ 4 = search needs in
+    let v = c .before .loop .inv in
+    (omega arith, copy-next (c .before .before .args .t3) _ _ _ 0 (v .1) (omega arith) (omega arith), simp length-set (v .2))
+
+same-length : tie.Need-same-length Inv-loop μ-loop
+same-length c = search needs
+
+returns : tie.Need-returns Inv-loop μ-loop
+returns c = let e : c .before .loop .z ≡ c .before .before .args .n = omega arith in
+    rw e at (c .before .loop .inv .1)
+
+pub write-intervals-spec : {M : Type 1} → statement M
+write-intervals-spec =
+    tie.close
+    (tie.spec
+    Inv-loop
+    μ-loop
+    loop-holds
+    mul-out
+    array-read-out
+    cast-out
+    slice-write-out
+    add-z
+    loop-less
+    loop-again
+    same-length
+    returns)

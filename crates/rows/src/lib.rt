@@ -1,0 +1,3 @@
+// Row records, read and written.
+pub mod row; // row records, by value
+pub mod row_writer; // a region's row record, written

@@ -1,0 +1,2 @@
+-- The laws of the run check, as the code goes.
+pub mod Laws

@@ -1,0 +1,3 @@
+// The check of a run list.
+pub mod step; // one step of a run: guards, updates, the state after it
+pub mod run; // the run list

@@ -1,0 +1,2 @@
+-- The laws of reading and admission.
+pub mod Laws

@@ -1,0 +1,1 @@
+// No code: the table file and its admission. See specs/ and proofs/Laws/.

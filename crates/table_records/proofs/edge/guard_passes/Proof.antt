@@ -1,0 +1,41 @@
+use borrow.Author.Tests.{le-leb, lt-leb, lt-ltb, le-ltb}
+use borrow.Author.Needs.{needs}
+use Rattle.table_records.proofs.edge.guard_passes.Statement.{statement}
+use Rattle.table_records.proofs.edge.guard_passes.Tie as tie
+
+shared-slice-read-if1 : tie.Need-shared-slice-read-if1
+shared-slice-read-if1 c = search needs
+
+returns : tie.Need-returns
+returns c = rw (le-ltb _ _ (c .if1 .taken))
+
+add-if2 : tie.Need-add-if2
+add-if2 c = search needs
+
+shared-slice-read-if2 : tie.Need-shared-slice-read-if2
+shared-slice-read-if2 c = search needs
+
+returns-2 : tie.Need-returns-2
+returns-2 c = rw (lt-ltb _ _ (c .before .before .if1 .left), lt-leb _ _ (c .if2 .taken))
+
+add-result : tie.Need-add-result
+add-result c = search needs
+
+shared-slice-read-result : tie.Need-shared-slice-read-result
+shared-slice-read-result c = search needs
+
+returns-3 : tie.Need-returns-3
+returns-3 c = rw (lt-ltb _ _ (c .before .before .before .if1 .left), le-leb _ _ (c .before .if2 .left))
+
+pub guard-passes-spec : {M : Type 1} → statement M
+guard-passes-spec =
+    tie.close
+    (tie.spec
+    shared-slice-read-if1
+    returns
+    add-if2
+    shared-slice-read-if2
+    returns-2
+    add-result
+    shared-slice-read-result
+    returns-3)

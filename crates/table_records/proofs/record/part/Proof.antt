@@ -1,0 +1,63 @@
+use Rattle.table_files.proofs.Laws.Records.{span}
+use Rattle.table_files.specs.Records.{part-at}
+use borrow.Author.Tests.{leb-true}
+use native.Mathlib.Omega.{arith}
+use mathlib.Core.Path.{sym, _∙_}
+use lib.ListN.{length}
+use Prim.Native.Nat.{_+_}
+use denote.Ref.{now}
+use borrow.Author.Needs.{needs}
+use Rattle.table_records.proofs.record.part.Statement.{statement}
+use Rattle.table_records.proofs.record.part.Tie as tie
+use Rattle.table_records.proofs.record.part.Reads as reads
+use Rattle.table_records.proofs.record.part.Lts as lts
+use Rattle.table_records.proofs.record.is_there.Reads as is-there-reads
+
+-- src/record.rt:23:8
+is-there-requires : tie.Need-is-there-requires
+is-there-requires c κs = search needs
+
+-- src/record.rt:24:26
+add-result : tie.Need-add-result
+add-result c = let a = c .before .before .before .args in
+    omega (arith, leb-true (a .at + a .n) (length (now (a .file))) (sym (c .before .is-there .ensures) ∙ c .if1 .taken))
+
+-- src/record.rt:24:16
+sub-result : tie.Need-sub-result
+sub-result c = search needs
+
+-- src/record.rt:24:16
+part-result-start : tie.Need-part-result-start
+part-result-start c = search needs
+
+-- src/record.rt:24:16
+part-result-end : tie.Need-part-result-end
+part-result-end c = let a = c .before .before .before .args in
+    omega (arith, leb-true (a .at + a .n) (length (now (a .file))) (sym (c .before .is-there .ensures) ∙ c .if1 .taken))
+
+-- src/record.rt:24:9
+returns : tie.Need-returns
+unfolding part-at
+returns c = simp (← c .before .before .is-there .ensures, c .before .if1 .taken, span)
+
+-- src/record.rt:26:5
+slice-aggregate-result : tie.Need-slice-aggregate-result
+slice-aggregate-result c = search needs
+
+-- src/record.rt:20:1
+returns-2 : tie.Need-returns-2
+unfolding part-at
+returns-2 c = simp (← c .before .before .is-there .ensures, c .before .if1 .left)
+
+pub part-spec : {M : Type 1} → statement M
+part-spec =
+    tie.close
+    (tie.spec
+    is-there-requires
+    add-result
+    sub-result
+    part-result-start
+    part-result-end
+    returns
+    slice-aggregate-result
+    returns-2)
