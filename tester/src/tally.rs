@@ -67,6 +67,14 @@ fn number_at(file: &[u8], at: usize) -> u32 {
 
 const NUMBERS: usize = 20;
 
+/// A number as a word: a refusal's own, or acceptance.
+fn name(number: u8) -> String {
+    match number {
+        0 => "accepted".into(),
+        refusal => refusal.to_string(),
+    }
+}
+
 /// How often each answer came.
 #[derive(Clone, Debug, Default)]
 pub struct Tally {
@@ -96,28 +104,48 @@ impl Tally {
         let never = |number: &u8| self.of_number(*number) == 0;
         numbers.iter().copied().filter(never).collect()
     }
+
+    /// What never came, in words: of the numbers any, of those with several
+    /// places each at the first, a middle and the last.
+    pub fn gaps(&self, numbers: &[u8], with_places: &[u8]) -> Vec<String> {
+        let missing = self.missing(numbers);
+        let mut gaps: Vec<String> = missing.iter().map(|number| name(*number)).collect();
+        for number in with_places {
+            for position in Position::ALL {
+                if !missing.contains(number) && self.of(*number, position) == 0 {
+                    gaps.push(format!("{number} at the {position:?} place").to_lowercase());
+                }
+            }
+        }
+        gaps
+    }
+
+    /// A line for each number that came; the places of those that can have several.
+    pub fn table(&self, with_places: &[u8]) -> String {
+        let columns = |cells: [String; 5]| cells.map(|cell| format!("{cell:>12}")).concat();
+        let head = ["refusal", "cases", "first", "middle", "last"];
+        let mut lines = vec![columns(head.map(String::from))];
+        for number in (0..NUMBERS as u8).filter(|number| self.of_number(*number) > 0) {
+            let places = match with_places.contains(&number) {
+                true => Position::ALL.map(|position| self.of(number, position).to_string()),
+                false => ["", "", ""].map(String::from),
+            };
+            let [first, middle, last] = places;
+            let cases = self.of_number(number).to_string();
+            lines.push(columns([name(number), cases, first, middle, last]));
+        }
+        let together = self.cases().to_string();
+        lines.push(format!("{:>12}{together:>12}", "together"));
+        let trimmed = lines.iter().map(|line| line.trim_end());
+        trimmed.collect::<Vec<_>>().join("\n")
+    }
 }
 
+/// The refusals that have several places in some file.
+const WITH_PLACES: &[u8] = &[1, 3, 5, 6, 7, 8, 10, 11, 12, 14, 15, 17];
+
 impl fmt::Display for Tally {
-    /// A line for each number that came.
     fn fmt(&self, out: &mut fmt::Formatter) -> fmt::Result {
-        writeln!(
-            out,
-            "{:>10}{:>12}{:>12}{:>12}{:>12}",
-            "refusal", "cases", "first", "middle", "last"
-        )?;
-        for number in (0..NUMBERS as u8).filter(|number| self.of_number(*number) > 0) {
-            let total = self.of_number(number);
-            if number == 0 {
-                writeln!(out, "{:>10}{total:>12}", "accepted")?;
-                continue;
-            }
-            let [first, middle, last] = Position::ALL.map(|position| self.of(number, position));
-            writeln!(
-                out,
-                "{number:>10}{total:>12}{first:>12}{middle:>12}{last:>12}"
-            )?;
-        }
-        write!(out, "{:>10}{:>12}", "together", self.cases())
+        out.write_str(&self.table(WITH_PLACES))
     }
 }
