@@ -30,8 +30,12 @@ static const char *const meanings[] = {
     "a row lacks a next row",
 };
 
-/* A file in memory, in a block of exactly its size, so that a read past its end does not go unnoticed under a sanitizer. */
+/*
+ * A file in memory, right up to the end of its block, so that a read past its end does not go unnoticed under valgrind. Of an empty
+ * file even the first byte is past the end.
+ */
 struct file {
+    uint8_t *block;
     uint8_t *bytes;
     size_t length;
 };
@@ -53,11 +57,12 @@ static int read_file(const char *name, struct file *file) {
         return 0;
     }
     fclose(stream);
-    file->bytes = malloc(file->length ? file->length : 1);
-    if (!file->bytes) {
+    file->block = malloc(file->length ? file->length : 1);
+    if (!file->block) {
         fprintf(stderr, "check: no memory for %s\n", name);
         return 0;
     }
+    file->bytes = file->length ? file->block : file->block + 1;
     memcpy(file->bytes, buffer, file->length);
     return 1;
 }
@@ -102,7 +107,7 @@ int main(int argc, char **argv) {
         status = report(tzelmaruf_admit(table.bytes, table.length), "ADMITTED", "records");
     else if (read_file(argv[2], &paper))
         status = check(table, paper);
-    free(paper.bytes);
-    free(table.bytes);
+    free(paper.block);
+    free(table.block);
     return status;
 }

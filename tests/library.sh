@@ -1,0 +1,34 @@
+#!/usr/bin/env bash
+# What the static library holds, needs and uses: three functions outward, nothing from outside but memory copies of the C library, no memory that
+# could keep anything between calls, and a bounded stack. The last line is 'N passed, M failed'.
+set -u
+cd "$(dirname "$0")/.." || exit 1
+library=target/staticlib/libchecker.a
+# the most stack that docs/EVIDENCE.md promises for each function, in bytes
+limit=16384
+passed=0 failed=0
+
+ok() { passed=$((passed + 1)); }
+bad() { failed=$((failed + 1)); echo "library: $*"; }
+
+# is WHAT EXPECTED GOT
+is() { if [ "$2" = "$3" ]; then ok; else bad "$1: '$3', expected '$2'"; fi; }
+
+if [ ! -f "$library" ]; then
+  bad "there is no $library: build it with 'rt staticlib checker'"
+else
+  outward=$(nm -g --defined-only "$library" | awk 'NF == 3 {print $3}' | sort | tr '\n' ' ')
+  is 'functions outward' 'tzelmaruf_admit tzelmaruf_check_regions tzelmaruf_check_run ' "$outward"
+  needed=$(nm -u "$library" | awk '$1 == "U" {print $2}' | grep -vxE 'memcpy|memmove|memset|memcmp' | sort | tr '\n' ' ')
+  is 'symbols from outside besides memory copies' '' "$needed"
+  writable=$(size "$library" | awk 'NR > 1 {sum += $2 + $3} END {print sum + 0}')
+  is 'bytes of writable data' 0 "$writable"
+  if bounds=$(tests/stack.sh "$library"); then ok; else bad "the stack has no bound"; fi
+  while read -r name bytes; do
+    if [ "$bytes" -le "$limit" ]; then ok; else bad "$name may use $bytes bytes of stack, the limit is $limit"; fi
+  done <<< "$bounds"
+  echo "$bounds"
+fi
+
+echo "$passed passed, $failed failed"
+[ "$failed" -eq 0 ]
