@@ -42,6 +42,13 @@ build 'tests/damage.c with sanitizers' gcc $sanitizers -Ihost -o "$room/sanitize
 printf '#include "tzelmaruf.h"\nint main() { return (int)tzelmaruf_admit(nullptr, 0) & 0; }\n' > "$room/use.cc"
 build 'the header in C++' g++ -std=c++11 -Wall -Wextra -Werror -Ihost -o "$room/use" "$room/use.cc" "$library"
 
+# the program in README.md
+sed -n '/^    #include "tzelmaruf.h"/,/^    }/s/^    //p' README.md > "$room/admit.c"
+# shellcheck disable=SC2086
+build 'the program in README.md' gcc $flags -Ihost -o "$room/admit" "$room/admit.c" "$library"
+got=$("$room/admit" < examples/empty/table.tab)
+if [ "$got" = 'admitted, 6 records' ]; then ok; else bad "the program in README.md prints '$got'"; fi
+
 # run STATUS TEXT ARGUMENTS: what the C program prints and its exit status
 run() {
   local status=$1 text=$2 got tool
