@@ -5,6 +5,8 @@ use crate::answer::hex;
 use crate::compare::{self, Compared};
 use crate::generate::damage::damage;
 use crate::generate::{admit_case, follow_case, regions_case, run_case, PairCase, Random};
+use crate::library::REFUSED;
+use crate::rooms::{Rooms, Side};
 use crate::tally::{OF_ADMISSION, OF_FOLLOWING, OF_REGIONS, OF_RUNS};
 
 #[derive(Clone, Copy, Debug, PartialEq, Eq)]
@@ -132,6 +134,24 @@ impl Input {
             Call::Regions => compare::regions(&self.table, &self.second),
             Call::Following => self.compare_following(),
         }
+    }
+
+    /// The same, and the same answer once more with everything lent beside pages
+    /// that may not be touched.
+    pub fn compare_in(&self, rooms: &mut Rooms, side: Side) -> Compared {
+        let met = self.compare()?;
+        let outcome = rooms.call(side, self);
+        let answer = match self.call == Call::Following && met.number > 0 {
+            true => REFUSED | u64::from(met.packed()),
+            false => met.packed().into(),
+        };
+        if outcome.answer != answer || !outcome.is_intact {
+            return Err(format!(
+                "the checker answers {answer:#x}, but beside a guard page ({side:?}) {:#x}, files intact: {}",
+                outcome.answer, outcome.is_intact
+            ));
+        }
+        Ok(met)
     }
 
     #[cfg(feature = "following")]

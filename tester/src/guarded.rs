@@ -125,7 +125,7 @@ pub fn trying(what: &'static str, case: u64) {
 
 extern "C" fn touched(_: i32) {
     let (what, mut case) = TRYING.get();
-    let mut digits = *b" case                      \n";
+    let mut digits = *b"                     \n";
     let mut at = digits.len() - 1;
     loop {
         at -= 1;
@@ -135,10 +135,11 @@ extern "C" fn touched(_: i32) {
             break;
         }
     }
-    let texts: [&[u8]; 3] = [
+    let texts: [&[u8]; 4] = [
         b"\na page beside a lent file was touched: ",
         what.as_bytes(),
-        &digits,
+        b" case ",
+        &digits[at..],
     ];
     for text in texts {
         // Safe: may be called in a handler, and the text is whole.

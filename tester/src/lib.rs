@@ -21,6 +21,7 @@ pub mod guarded;
 pub mod library;
 pub mod region;
 pub mod region_list;
+pub mod rooms;
 pub mod run;
 pub mod stack;
 pub mod successor;

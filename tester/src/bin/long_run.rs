@@ -1,8 +1,9 @@
 //! A long run of random and damaged files through every call of the checker,
-//! held against the rules:
+//! held against the rules, and once more beside pages that may not be touched:
 //!
 //!     long_run [CASES [CALL]]    so many cases of each call, or of one
-//!     long_run replay FILE       one case again, from the file that was written
+//!     long_run keep CALL CASE    writes one case to a file
+//!     long_run replay FILE       one case again, from its file
 //!
 //! It prints the answers by number and by place, and writes each of the first
 //! cases on which the two sides differ to a file. Its exit status is 0 only if
@@ -14,9 +15,12 @@ use std::process::ExitCode;
 use std::time::Instant;
 use tzelmaruf_tester::call::{Call, Input};
 use tzelmaruf_tester::generate::{seed, Random};
+use tzelmaruf_tester::guarded::{report_touched_pages, trying};
+use tzelmaruf_tester::rooms::{Rooms, Side};
 use tzelmaruf_tester::tally::Tally;
 
 const USUAL_CASES: u64 = 2_000_000;
+const USUAL_SEED: u64 = 30_501;
 
 /// No more differences of a call than these are shown and written.
 const SHOWN: u64 = 5;
@@ -35,43 +39,78 @@ const DIFFERENT: u8 = 1;
 const USAGE: u8 = 2;
 const INCOMPLETE: u8 = 3;
 
-/// What came of the cases of one call.
-#[derive(Default)]
+fn input_of(call: Call, seed: u64, case: u64) -> Input {
+    Input::random(call, &mut Random::of_case(seed, case))
+}
+
+/// What came of the cases of one call so far.
 struct Outcome {
     tally: Tally,
     differences: u64,
+    longest_table: usize,
+    longest_second: usize,
+    start: Instant,
 }
 
-/// Runs one call through its cases and reports.
-fn run_call(call: Call, seed: u64, cases: u64) -> Outcome {
-    let start = Instant::now();
-    let mut outcome = Outcome::default();
-    for case in 0..cases {
-        let input = Input::random(call, &mut Random::of_case(seed, case));
-        match input.compare() {
-            Ok(met) => outcome.tally.count(met.number, met.position),
+impl Outcome {
+    fn new() -> Outcome {
+        Outcome {
+            tally: Tally::default(),
+            differences: 0,
+            longest_table: 0,
+            longest_second: 0,
+            start: Instant::now(),
+        }
+    }
+
+    /// Puts one case to both sides, beside the pages on either side in turn.
+    fn try_case(&mut self, rooms: &mut Rooms, call: Call, seed: u64, case: u64) {
+        trying(call.name(), case);
+        let input = input_of(call, seed, case);
+        self.longest_table = self.longest_table.max(input.table.len());
+        self.longest_second = self.longest_second.max(input.second.len());
+        let side = Side::BOTH[case as usize % 2];
+        match input.compare_in(rooms, side) {
+            Ok(met) => self.tally.count(met.number, met.position),
             Err(report) => {
-                outcome.differences += 1;
-                if outcome.differences <= SHOWN {
+                self.differences += 1;
+                if self.differences <= SHOWN {
                     println!("{} seed {seed} case {case}: {report}", call.name());
                     keep(&input, seed, case);
                 }
             }
         }
-        if (case + 1) % PROGRESS == 0 {
-            let seconds = start.elapsed().as_secs();
+    }
+
+    fn report(&self, call: Call) {
+        println!("{}", self.tally.table(call.with_places()));
+        println!(
+            "longest table {} bytes, longest second file {} bytes",
+            self.longest_table, self.longest_second
+        );
+        let seconds = self.start.elapsed().as_secs();
+        println!("differences: {}; {seconds} seconds", self.differences);
+    }
+}
+
+/// Runs one call through its cases and reports.
+fn run_call(call: Call, seed: u64, cases: u64) -> Outcome {
+    let mut rooms = Rooms::default();
+    let mut outcome = Outcome::new();
+    for case in 0..cases {
+        outcome.try_case(&mut rooms, call, seed, case);
+        let done = case + 1;
+        if done % PROGRESS == 0 {
+            let seconds = outcome.start.elapsed().as_secs();
             let differences = outcome.differences;
+            let name = call.name();
             eprintln!(
-                "{}: {} of {cases} cases, {differences} differences, {seconds} seconds",
-                call.name(),
-                case + 1
+                "{name}: {done} of {cases} cases, {differences} differences, {seconds} seconds"
             );
         }
     }
     println!("{}: {cases} cases", call.name());
-    println!("{}", outcome.tally.table(call.with_places()));
-    let seconds = start.elapsed().as_secs_f64();
-    println!("differences: {}; {seconds:.0} seconds", outcome.differences);
+    outcome.report(call);
     outcome
 }
 
@@ -98,8 +137,9 @@ fn missing(call: Call, tally: &Tally) -> usize {
 }
 
 fn long_run(calls: &[Call], cases: u64) -> u8 {
-    let seed = seed(30_501);
+    let seed = seed(USUAL_SEED);
     println!("seed {seed}: {cases} cases of each call\n");
+    report_touched_pages();
     let (mut differences, mut gaps) = (0, 0);
     for call in calls {
         let outcome = run_call(*call, seed, cases);
@@ -117,27 +157,31 @@ fn long_run(calls: &[Call], cases: u64) -> u8 {
 
 fn replay(file: &str) -> u8 {
     let text = std::fs::read_to_string(file).map_err(|error| error.to_string());
-    match text.and_then(|text| Input::from_text(&text)) {
+    let input = match text.and_then(|text| Input::from_text(&text)) {
+        Ok(input) => input,
         Err(wrong) => {
             eprintln!("long_run: {file}: {wrong}");
-            USAGE
+            return USAGE;
         }
-        Ok(input) => match input.compare() {
-            Ok(met) => {
-                println!("{}: both sides agree: {met:?}", input.call.name());
-                AGREED
-            }
+    };
+    let mut rooms = Rooms::default();
+    let name = input.call.name();
+    for side in Side::BOTH {
+        match input.compare_in(&mut rooms, side) {
+            Ok(met) => println!("{name}: both sides agree: {met:?}"),
             Err(report) => {
-                println!("{}: {report}", input.call.name());
-                DIFFERENT
+                println!("{name}: {report}");
+                return DIFFERENT;
             }
-        },
+        }
     }
+    AGREED
 }
 
 fn usage() -> u8 {
     let names = Call::ALL.map(Call::name).join(", ");
     eprintln!("usage: long_run [CASES [CALL]]    (as 2000000; the calls: {names})");
+    eprintln!("       long_run keep CALL CASE");
     eprintln!("       long_run replay FILE");
     USAGE
 }
@@ -145,15 +189,21 @@ fn usage() -> u8 {
 fn main() -> ExitCode {
     let words: Vec<String> = std::env::args().skip(1).collect();
     let words: Vec<&str> = words.iter().map(String::as_str).collect();
+    let number = |word: &str| word.parse::<u64>().ok();
     ExitCode::from(match words[..] {
         [] => long_run(&Call::ALL, USUAL_CASES),
         ["replay", file] => replay(file),
-        [cases] => match cases.parse() {
-            Ok(cases) => long_run(&Call::ALL, cases),
-            Err(_) => usage(),
+        ["keep", call, case] => match (Call::named(call), number(case)) {
+            (Some(call), Some(case)) => {
+                let seed = seed(USUAL_SEED);
+                keep(&input_of(call, seed, case), seed, case);
+                AGREED
+            }
+            _ => usage(),
         },
-        [cases, call] => match (cases.parse(), Call::named(call)) {
-            (Ok(cases), Some(call)) => long_run(&[call], cases),
+        [cases] => number(cases).map_or_else(usage, |cases| long_run(&Call::ALL, cases)),
+        [cases, call] => match (number(cases), Call::named(call)) {
+            (Some(cases), Some(call)) => long_run(&[call], cases),
             _ => usage(),
         },
         _ => usage(),
