@@ -92,13 +92,20 @@ static int check(struct file table, struct file paper) {
     return report(answer, "EMPTY, no run enters a final location", "rows");
 }
 
+static const char usage[] =
+    "usage: check TABLE [PAPER]\n"
+    "Admits a table, or checks a paper (a run list or a region list) against it.\n"
+    "Exit status: 0 accepted, 1 refused, 2 a file could not be read or the answer not be written.\n";
+
 int main(int argc, char **argv) {
     struct file table = {0}, paper = {0};
     int status = EXIT_TROUBLE;
+    if (argc == 2 && (!strcmp(argv[1], "-h") || !strcmp(argv[1], "--help"))) {
+        fputs(usage, stdout);
+        return EXIT_ACCEPTED;
+    }
     if (argc != 2 && argc != 3) {
-        fprintf(stderr, "usage: check TABLE [PAPER]\n"
-                        "Admits a table, or checks a paper (a run list or a region list) against it.\n"
-                        "Exit status: 0 accepted, 1 refused, 2 a file could not be read.\n");
+        fputs(usage, stderr);
         return EXIT_TROUBLE;
     }
     if (!read_file(argv[1], &table))
@@ -107,6 +114,10 @@ int main(int argc, char **argv) {
         status = report(tzelmaruf_admit(table.bytes, table.length), "ADMITTED", "records");
     else if (read_file(argv[2], &paper))
         status = check(table, paper);
+    if (fflush(stdout) != 0) {
+        fprintf(stderr, "check: cannot write the answer: %s\n", strerror(errno));
+        status = EXIT_TROUBLE;
+    }
     free(paper.block);
     free(table.block);
     return status;

@@ -68,6 +68,10 @@ run 1 'REFUSED 1 at record 0: the table ends inside a record, or a record has an
 run 1 'REFUSED 7 at record 0: the paper ends inside a record, or a record has another mark' examples/empty/table.tab "$room/empty"
 run 2 'check: cannot open nowhere: No such file or directory' nowhere
 run 2 "check: cannot read $room: Is a directory" "$room"
+run 2 "$("$room/check" --help)"
+run 0 "$("$room/check" -h)" --help
+"$room/check" examples/empty/table.tab > /dev/full 2> "$room/said"
+if [ $? -eq 2 ] && grep -q 'cannot write the answer' "$room/said"; then ok; else bad "a full disk goes unnoticed"; fi
 
 # the tools see a read of one byte behind a block, of an empty file too
 for tool in valgrind sanitizers; do
