@@ -15,6 +15,12 @@ export ASAN_OPTIONS=exitcode=$caught:detect_leaks=0 UBSAN_OPTIONS=exitcode=$caug
 ok() { passed=$((passed + 1)); }
 bad() { failed=$((failed + 1)); echo "host: $*"; }
 
+for tool in gcc g++ make valgrind; do
+  command -v $tool > /dev/null || bad "no command '$tool' on the PATH"
+done
+[ -f "$library" ] || bad "there is no $library: build it with 'rt staticlib checker'"
+[ "$failed" -eq 0 ] || { echo "0 passed, $failed failed"; exit 1; }
+
 # build WHAT COMMAND..: shows what the compiler says if it fails
 build() {
   local what=$1

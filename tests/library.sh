@@ -14,7 +14,9 @@ bad() { failed=$((failed + 1)); echo "library: $*"; }
 # is WHAT EXPECTED GOT
 is() { if [ "$2" = "$3" ]; then ok; else bad "$1: '$3', expected '$2'"; fi; }
 
-if [ ! -f "$library" ]; then
+if ! command -v objdump > /dev/null; then
+  bad "no command 'objdump' on the PATH: it comes with binutils, as nm and size do"
+elif [ ! -f "$library" ]; then
   bad "there is no $library: build it with 'rt staticlib checker'"
 else
   outward=$(nm -g --defined-only "$library" | awk 'NF == 3 {print $3}' | sort | tr '\n' ' ')

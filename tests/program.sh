@@ -6,6 +6,7 @@ cd "$(dirname "$0")/.." || exit 1
 program=$PWD/target/bin/tzelmaruf
 room=$(mktemp -d) && trap 'rm -rf "$room"' EXIT
 passed=0 failed=0
+[ -x "$program" ] || { echo "program: there is no $program: build it with 'rt check tzelmaruf'"; echo "0 passed, 1 failed"; exit 1; }
 
 # check NAME FOLDER EXPECTED
 check() {

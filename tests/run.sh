@@ -7,6 +7,7 @@ here=$PWD
 program=$here/target/bin/tzelmaruf
 room=$(mktemp -d) && trap 'rm -rf "$room"' EXIT
 passed=0 failed=0
+[ -x "$program" ] || { echo "run: there is no $program: build it with 'rt check tzelmaruf'"; echo "0 passed, 1 failed"; exit 1; }
 
 # run NAME STATUS LINE NOTE ARGUMENTS..: what ./run prints, its exit status, and a part of what it says besides (nothing, where NOTE is empty)
 run() {
