@@ -32,5 +32,10 @@ while IFS= read -r line; do
   quoted host/tzelmaruf.h "${line#    }"
 done < <(grep -E '^    uint32_t ' README.md)
 
+# the hex in docs/FORMAT.md: the table, then the list
+hex_of() { od -An -v -tx1 "$1" | tr -d ' \n' | tr a-f A-F; }
+written=$(sed -nE 's/^    (([0-9A-F]{2} )+) .*/\1/p' docs/FORMAT.md | tr -d ' \n')
+if [ "$written" = "$(hex_of examples/empty/table.tab)$(hex_of examples/empty/proof.prf)" ]; then ok; else bad "the hex in docs/FORMAT.md is not examples/empty"; fi
+
 echo "$passed passed, $failed failed"
 [ "$failed" -eq 0 ]
