@@ -20,8 +20,8 @@ needs_checker!();
 
 const CASES: u64 = 20_000;
 
-/// More than any of them needs, so that a wrong bound shows as one.
-const ROOM: usize = 1 << 17;
+/// Twice the limit that the documents name.
+const ROOM: usize = 1 << 15;
 
 /// The bounds by name, as the script prints them.
 fn bounds() -> HashMap<String, usize> {
