@@ -120,24 +120,38 @@ impl Tally {
         gaps
     }
 
-    /// A line for each number that came; the places of those that can have several.
+    /// A table, in Markdown: a line for each number that came, with the places
+    /// of those that can have several.
     pub fn table(&self, with_places: &[u8]) -> String {
-        let columns = |cells: [String; 5]| cells.map(|cell| format!("{cell:>12}")).concat();
         let head = ["refusal", "cases", "first", "middle", "last"];
-        let mut lines = vec![columns(head.map(String::from))];
+        let mut lines = vec![line(head.map(String::from)), "|---:".repeat(5) + "|"];
         for number in (0..NUMBERS as u8).filter(|number| self.of_number(*number) > 0) {
             let places = match with_places.contains(&number) {
-                true => Position::ALL.map(|position| self.of(number, position).to_string()),
-                false => ["", "", ""].map(String::from),
+                true => Position::ALL.map(|position| grouped(self.of(number, position))),
+                false => Default::default(),
             };
             let [first, middle, last] = places;
-            let cases = self.of_number(number).to_string();
-            lines.push(columns([name(number), cases, first, middle, last]));
+            let cases = grouped(self.of_number(number));
+            lines.push(line([name(number), cases, first, middle, last]));
         }
-        let together = self.cases().to_string();
-        lines.push(format!("{:>12}{together:>12}", "together"));
-        let trimmed = lines.iter().map(|line| line.trim_end());
-        trimmed.collect::<Vec<_>>().join("\n")
+        let [first, middle, last] = Default::default();
+        let together = grouped(self.cases());
+        lines.push(line(["together".into(), together, first, middle, last]));
+        lines.join("\n")
+    }
+}
+
+/// A line of a table.
+fn line(cells: [String; 5]) -> String {
+    let cells = cells.map(|cell| format!("| {cell:>10} "));
+    cells.concat() + "|"
+}
+
+/// A number with a comma before each three digits.
+fn grouped(number: u64) -> String {
+    match number {
+        0..=999 => number.to_string(),
+        _ => format!("{},{:03}", grouped(number / 1_000), number % 1_000),
     }
 }
 

@@ -56,7 +56,7 @@ fn compete(
 fn print(name: &str, times: &Times) {
     let Times { checker, rules } = times;
     let ratio = checker / rules;
-    println!("{name:<58}{checker:>14.6}{rules:>14.6}{ratio:>9.2}");
+    println!("| {name:<58} | {checker:>10.6} | {rules:>10.6} | {ratio:>6.2} |");
 }
 
 /// A list that is accepted, on both sides.
@@ -265,12 +265,13 @@ fn time_run(repetitions: u32) {
 fn main() {
     let given = std::env::args().nth(1).and_then(|text| text.parse().ok());
     let repetitions = given.unwrap_or(3);
-    println!("best of {repetitions}, seconds; ratio: checker to rules");
+    println!("best of {repetitions}, seconds; ratio: checker to rules\n");
     let head = ["", "checker", "rules", "ratio"];
     println!(
-        "{:<58}{:>14}{:>14}{:>9}",
+        "| {:<58} | {:>10} | {:>10} | {:>6} |",
         head[0], head[1], head[2], head[3]
     );
+    println!("|---|---:|---:|---:|");
     time_admission(repetitions);
     time_run(repetitions);
     time_lists(repetitions);
