@@ -13,6 +13,7 @@ pub mod automaton;
 pub mod call;
 pub mod compare;
 pub mod concrete;
+pub mod cpu_time;
 pub mod explore;
 pub mod follow;
 pub mod format;

@@ -1,6 +1,6 @@
 //! The proved checker, linked from its archives, behind safe functions on bytes.
 //!
-//! All unsafe code of the tester is here, in `guarded` and in `stack`.
+//! All unsafe code of the tester is here, in `guarded`, `stack` and `cpu_time`.
 //! Everything is lent mutably, even what the checker may only read: a checker
 //! that wrote there would then be found by a comparison, and no promise made to
 //! the compiler would be broken.
