@@ -52,6 +52,10 @@ mkfifo "$room/two words/table.tab" && cp examples/empty/proof.prf "$room/two wor
 cat examples/empty/table.tab > "$room/two words/table.tab" &
 run 'a pipe' 0 'EMPTY 8' 'is a pipe' timeout 60 ./run "$room/two words"
 
+# without permission, which root has all the same
+mkdir "$room/shut" && cp examples/empty/* "$room/shut" && chmod 000 "$room/shut/table.tab"
+[ -r "$room/shut/table.tab" ] || run 'no permission' 0 'REFUSED 1 0' 'no permission to read' ./run "$room/shut"
+
 # without rt: nothing can be built, and what is built runs
 mkdir -p "$room/bare/crates" "$room/bin" && cp run "$room/bare" && : > "$room/bare/crates.txt"
 for tool in bash env cat dirname readlink find mktemp touch rm; do ln -s "$(command -v $tool)" "$room/bin"; done
