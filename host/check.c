@@ -30,8 +30,12 @@ static const char *const meanings[] = {
     "a row lacks a next row",
 };
 
-/* A file in memory, in a block of exactly its size, so that a read past its end does not go unnoticed under a sanitizer. */
+/*
+ * A file in memory, right up to the end of its block, so that a read past its end does not go unnoticed under valgrind. Of an empty
+ * file even the first byte is past the end.
+ */
 struct file {
+    uint8_t *block;
     uint8_t *bytes;
     size_t length;
 };
@@ -53,11 +57,12 @@ static int read_file(const char *name, struct file *file) {
         return 0;
     }
     fclose(stream);
-    file->bytes = malloc(file->length ? file->length : 1);
-    if (!file->bytes) {
+    file->block = malloc(file->length ? file->length : 1);
+    if (!file->block) {
         fprintf(stderr, "check: no memory for %s\n", name);
         return 0;
     }
+    file->bytes = file->length ? file->block : file->block + 1;
     memcpy(file->bytes, buffer, file->length);
     return 1;
 }
@@ -87,13 +92,20 @@ static int check(struct file table, struct file paper) {
     return report(answer, "EMPTY, no run enters a final location", "rows");
 }
 
+static const char usage[] =
+    "usage: check TABLE [PAPER]\n"
+    "Admits a table, or checks a paper (a run list or a region list) against it.\n"
+    "Exit status: 0 accepted, 1 refused, 2 a file could not be read or the answer not be written.\n";
+
 int main(int argc, char **argv) {
     struct file table = {0}, paper = {0};
     int status = EXIT_TROUBLE;
+    if (argc == 2 && (!strcmp(argv[1], "-h") || !strcmp(argv[1], "--help"))) {
+        fputs(usage, stdout);
+        return EXIT_ACCEPTED;
+    }
     if (argc != 2 && argc != 3) {
-        fprintf(stderr, "usage: check TABLE [PAPER]\n"
-                        "Admits a table, or checks a paper (a run list or a region list) against it.\n"
-                        "Exit status: 0 accepted, 1 refused, 2 a file could not be read.\n");
+        fputs(usage, stderr);
         return EXIT_TROUBLE;
     }
     if (!read_file(argv[1], &table))
@@ -102,7 +114,11 @@ int main(int argc, char **argv) {
         status = report(tzelmaruf_admit(table.bytes, table.length), "ADMITTED", "records");
     else if (read_file(argv[2], &paper))
         status = check(table, paper);
-    free(paper.bytes);
-    free(table.bytes);
+    if (fflush(stdout) != 0) {
+        fprintf(stderr, "check: cannot write the answer: %s\n", strerror(errno));
+        status = EXIT_TROUBLE;
+    }
+    free(paper.block);
+    free(table.block);
     return status;
 }

@@ -3,13 +3,13 @@
  *
  * Each function takes files as bytes in memory, reads nothing past the lengths given, keeps nothing between calls, writes to no
  * memory of the caller's and always returns. Every byte string of every length is a legal input: there is nothing to test first.
- * For an empty file pass length 0.
+ * For an empty file pass length 0; the pointer is then not read. A call needs at most 16 KiB of stack, and no heap.
  *
  * Each function returns one number:
  *   accepted: the count (records of a table, steps of a run, rows of a region list), which is below 65,536;
  *   refused:  the refusal number times 65,536 plus the place, the number of the record in its file (the header is 0).
  *
- * Link with libchecker.a (`rt staticlib checker` writes it to target/staticlib/).
+ * Link with libchecker.a (`rt staticlib checker` writes it to target/staticlib/). It needs memcpy from outside, and nothing else.
  */
 #ifndef TZELMARUF_H
 #define TZELMARUF_H

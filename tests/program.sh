@@ -6,6 +6,7 @@ cd "$(dirname "$0")/.." || exit 1
 program=$PWD/target/bin/tzelmaruf
 room=$(mktemp -d) && trap 'rm -rf "$room"' EXIT
 passed=0 failed=0
+[ -x "$program" ] || { echo "program: there is no $program: build it with 'rt check tzelmaruf'"; echo "0 passed, 1 failed"; exit 1; }
 
 # check NAME FOLDER EXPECTED
 check() {
@@ -30,9 +31,15 @@ long table-overlong tests/program/p1 table.tab 'REFUSED 4 6'
 long list-overlong tests/program/p1 proof.prf 'REFUSED 9 9'
 long run-overlong tests/program/p4-at-most proof.prf 'REFUSED 9 3'
 
-# names that cannot be read as files: a folder, and a file without permission (which root reads all the same, so it is left out there)
-mkdir -p "$room/folder/table.tab" "$room/folder/proof.prf"
+# names that cannot be read as files: a folder, a link to itself, a device without end, five gigabytes that are not on the disk
+mkdir -p "$room/folder/table.tab" "$room/folder/proof.prf" "$room/loop" "$room/device" "$room/sparse"
 check folders "$room/folder" 'REFUSED 1 0'
+ln -s table.tab "$room/loop/table.tab"
+check loop "$room/loop" 'REFUSED 1 0'
+cp tests/program/p1/table.tab "$room/device" && ln -s /dev/zero "$room/device/proof.prf"
+check device "$room/device" 'REFUSED 7 0'
+cp tests/program/p1/*.??? "$room/sparse" && truncate -s 5G "$room/sparse/proof.prf"
+check sparse "$room/sparse" 'REFUSED 9 9'
 
 echo "$passed passed, $failed failed"
 [ "$failed" -eq 0 ]

@@ -19,6 +19,13 @@ pub struct Met {
     pub position: Position,
 }
 
+impl Met {
+    /// The packed answer.
+    pub fn packed(&self) -> u32 {
+        u32::from(self.number) << 16 | self.place
+    }
+}
+
 /// The answer, or the report of a case on which the sides differ.
 pub type Compared = Result<Met, String>;
 

@@ -1,8 +1,9 @@
 //! The proved checker, linked from its archives, behind safe functions on bytes.
 //!
-//! All unsafe code of the tester is here. Everything is lent mutably, even
-//! what the checker may only read: a checker that wrote there would then be
-//! found by a comparison, and no promise made to the compiler would be broken.
+//! All unsafe code of the tester is here, in `guarded`, `stack` and `cpu_time`.
+//! Everything is lent mutably, even what the checker may only read: a checker
+//! that wrote there would then be found by a comparison, and no promise made to
+//! the compiler would be broken.
 //!
 //! `build.rs` finds the archives. Where one is not there, tests that need it
 //! fail to build (`needs_checker!`, `needs_probe!`), and a program that calls
@@ -115,6 +116,34 @@ pub fn check_regions(table: &mut [u8], list: &mut [u8]) -> u32 {
             list.as_mut_ptr(),
             list_length,
         )
+    }
+}
+
+/// One of the three functions of a host program. Admission takes the table
+/// alone and makes nothing of a second file.
+#[derive(Clone, Copy, Debug, PartialEq, Eq)]
+pub enum Function {
+    Admit,
+    CheckRun,
+    CheckRegions,
+}
+
+impl Function {
+    pub fn name(self) -> &'static str {
+        match self {
+            Function::Admit => "tzelmaruf_admit",
+            Function::CheckRun => "tzelmaruf_check_run",
+            Function::CheckRegions => "tzelmaruf_check_regions",
+        }
+    }
+
+    /// Where it stands, for `stack`.
+    pub(crate) fn address(self) -> usize {
+        match self {
+            Function::Admit => tzelmaruf_admit as *const () as usize,
+            Function::CheckRun => tzelmaruf_check_run as *const () as usize,
+            Function::CheckRegions => tzelmaruf_check_regions as *const () as usize,
+        }
     }
 }
 

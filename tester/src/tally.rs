@@ -67,6 +67,14 @@ fn number_at(file: &[u8], at: usize) -> u32 {
 
 const NUMBERS: usize = 20;
 
+/// A number as a word: a refusal's own, or acceptance.
+fn name(number: u8) -> String {
+    match number {
+        0 => "accepted".into(),
+        refusal => refusal.to_string(),
+    }
+}
+
 /// How often each answer came.
 #[derive(Clone, Debug, Default)]
 pub struct Tally {
@@ -96,28 +104,62 @@ impl Tally {
         let never = |number: &u8| self.of_number(*number) == 0;
         numbers.iter().copied().filter(never).collect()
     }
+
+    /// What never came, in words: of the numbers any, of those with several
+    /// places each at the first, a middle and the last.
+    pub fn gaps(&self, numbers: &[u8], with_places: &[u8]) -> Vec<String> {
+        let missing = self.missing(numbers);
+        let mut gaps: Vec<String> = missing.iter().map(|number| name(*number)).collect();
+        for number in with_places {
+            for position in Position::ALL {
+                if !missing.contains(number) && self.of(*number, position) == 0 {
+                    gaps.push(format!("{number} at the {position:?} place").to_lowercase());
+                }
+            }
+        }
+        gaps
+    }
+
+    /// A table, in Markdown: a line for each number that came, with the places
+    /// of those that can have several.
+    pub fn table(&self, with_places: &[u8]) -> String {
+        let head = ["refusal", "cases", "first", "middle", "last"];
+        let mut lines = vec![line(head.map(String::from)), "|---:".repeat(5) + "|"];
+        for number in (0..NUMBERS as u8).filter(|number| self.of_number(*number) > 0) {
+            let places = match with_places.contains(&number) {
+                true => Position::ALL.map(|position| grouped(self.of(number, position))),
+                false => Default::default(),
+            };
+            let [first, middle, last] = places;
+            let cases = grouped(self.of_number(number));
+            lines.push(line([name(number), cases, first, middle, last]));
+        }
+        let [first, middle, last] = Default::default();
+        let together = grouped(self.cases());
+        lines.push(line(["together".into(), together, first, middle, last]));
+        lines.join("\n")
+    }
 }
 
+/// A line of a table.
+fn line(cells: [String; 5]) -> String {
+    let cells = cells.map(|cell| format!("| {cell:>10} "));
+    cells.concat() + "|"
+}
+
+/// A number with a comma before each three digits.
+fn grouped(number: u64) -> String {
+    match number {
+        0..=999 => number.to_string(),
+        _ => format!("{},{:03}", grouped(number / 1_000), number % 1_000),
+    }
+}
+
+/// The refusals that have several places in some file.
+const WITH_PLACES: &[u8] = &[1, 3, 5, 6, 7, 8, 10, 11, 12, 14, 15, 17];
+
 impl fmt::Display for Tally {
-    /// A line for each number that came.
     fn fmt(&self, out: &mut fmt::Formatter) -> fmt::Result {
-        writeln!(
-            out,
-            "{:>10}{:>12}{:>12}{:>12}{:>12}",
-            "refusal", "cases", "first", "middle", "last"
-        )?;
-        for number in (0..NUMBERS as u8).filter(|number| self.of_number(*number) > 0) {
-            let total = self.of_number(number);
-            if number == 0 {
-                writeln!(out, "{:>10}{total:>12}", "accepted")?;
-                continue;
-            }
-            let [first, middle, last] = Position::ALL.map(|position| self.of(number, position));
-            writeln!(
-                out,
-                "{number:>10}{total:>12}{first:>12}{middle:>12}{last:>12}"
-            )?;
-        }
-        write!(out, "{:>10}{:>12}", "together", self.cases())
+        out.write_str(&self.table(WITH_PLACES))
     }
 }

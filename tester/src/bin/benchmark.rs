@@ -1,12 +1,12 @@
 //! The checker's time beside that of the rules, on the same input in the same
 //! run: `benchmark [REPETITIONS]`, to be built for release.
 //!
-//! The two sides take turns, and the best time of each counts, so that other
-//! work on the machine disturbs the ratio as little as it can.
+//! The two sides take turns, and the best processor time of each counts, so that
+//! other work on the machine disturbs the ratio as little as it can.
 
 use std::hint::black_box;
-use std::time::Instant;
 use tzelmaruf_tester::automaton::*;
+use tzelmaruf_tester::cpu_time::cpu_time;
 use tzelmaruf_tester::explore::closure;
 use tzelmaruf_tester::format::encode_table;
 use tzelmaruf_tester::generate::{tables, Random, Shape};
@@ -23,11 +23,11 @@ struct Times {
 
 /// Seconds of one call, as the mean of `calls` in a row. The answer has to be `expected`.
 fn seconds(calls: u32, expected: u32, call: &mut dyn FnMut() -> u32) -> f64 {
-    let start = Instant::now();
+    let start = cpu_time();
     for _ in 0..calls {
         assert_eq!(black_box(call()), expected);
     }
-    start.elapsed().as_secs_f64() / f64::from(calls)
+    (cpu_time() - start).as_secs_f64() / f64::from(calls)
 }
 
 /// How often each side is timed, and how many short calls make one time.
@@ -56,7 +56,7 @@ fn compete(
 fn print(name: &str, times: &Times) {
     let Times { checker, rules } = times;
     let ratio = checker / rules;
-    println!("{name:<58}{checker:>14.6}{rules:>14.6}{ratio:>9.2}");
+    println!("| {name:<58} | {checker:>10.6} | {rules:>10.6} | {ratio:>6.2} |");
 }
 
 /// A list that is accepted, on both sides.
@@ -265,12 +265,13 @@ fn time_run(repetitions: u32) {
 fn main() {
     let given = std::env::args().nth(1).and_then(|text| text.parse().ok());
     let repetitions = given.unwrap_or(3);
-    println!("best of {repetitions}, seconds; ratio: checker to rules");
+    println!("best of {repetitions}, seconds of processor time; ratio: checker to rules\n");
     let head = ["", "checker", "rules", "ratio"];
     println!(
-        "{:<58}{:>14}{:>14}{:>9}",
+        "| {:<58} | {:>10} | {:>10} | {:>6} |",
         head[0], head[1], head[2], head[3]
     );
+    println!("|---|---:|---:|---:|");
     time_admission(repetitions);
     time_run(repetitions);
     time_lists(repetitions);

@@ -1,126 +1,211 @@
 //! A long run of random and damaged files through every call of the checker,
-//! held against the rules: `long_run CASES`, with CASES for each call.
+//! held against the rules, and once more beside pages that may not be touched:
 //!
-//! It prints the answers by number and by place, the cases on which the two
-//! sides differ, and the seconds. Its exit status is 0 only if none differ.
+//!     long_run [CASES [CALL]]    so many cases of each call, or of one
+//!     long_run keep CALL CASE    writes one case to a file
+//!     long_run replay FILE       one case again, from its file
+//!
+//! It prints the answers by number and by place, and writes each of the first
+//! cases on which the two sides differ to a file. Its exit status is 0 only if
+//! no case differs and every number came at every place it can have.
 //! `TZELMARUF_SEED` sets another seed.
 
+use std::path::PathBuf;
 use std::process::ExitCode;
 use std::time::Instant;
-use tzelmaruf_tester::compare::{self, Compared};
-use tzelmaruf_tester::generate::damage::damage;
-use tzelmaruf_tester::generate::{admit_case, regions_case, run_case, seed, PairCase, Random};
-use tzelmaruf_tester::tally::{Tally, OF_ADMISSION, OF_REGIONS, OF_RUNS};
+use tzelmaruf_tester::call::{Call, Input};
+use tzelmaruf_tester::generate::{seed, Random};
+use tzelmaruf_tester::guarded::{report_touched_pages, trying};
+use tzelmaruf_tester::rooms::{Rooms, Side};
+use tzelmaruf_tester::tally::Tally;
 
-const LARGE_ONCE_IN: usize = 50;
+const USUAL_CASES: u64 = 2_000_000;
+const USUAL_SEED: u64 = 30_501;
 
-/// No more differences of a call than these are shown.
+/// No more differences of a call than these are shown and written.
 const SHOWN: u64 = 5;
 
 /// A line of progress after so many cases, so that a case without end can be found.
 const PROGRESS: u64 = 250_000;
 
-/// One call: makes a case and puts it to both sides.
-struct Call {
-    name: &'static str,
-    numbers: &'static [u8],
-    compare: fn(&mut Random) -> Compared,
+/// Where the cases that differ are written, from the folder it is run in.
+const FOLDER: &str = "target/differences";
+
+/// How this program is run from the tester's folder.
+const COMMAND: &str = "cargo run --offline --release --bin long_run --";
+
+const AGREED: u8 = 0;
+const DIFFERENT: u8 = 1;
+const USAGE: u8 = 2;
+const INCOMPLETE: u8 = 3;
+
+fn input_of(call: Call, seed: u64, case: u64) -> Input {
+    Input::random(call, &mut Random::of_case(seed, case))
 }
 
-fn calls() -> Vec<Call> {
-    let call = |name, numbers, compare| Call {
-        name,
-        numbers,
-        compare,
-    };
-    vec![
-        call("admission", OF_ADMISSION, admission),
-        call("run lists", OF_RUNS, runs),
-        call("region lists", OF_REGIONS, regions),
-        #[cfg(feature = "following")]
-        call(
-            "following",
-            tzelmaruf_tester::tally::OF_FOLLOWING,
-            following,
-        ),
-    ]
+/// What came of the cases of one call so far.
+struct Outcome {
+    tally: Tally,
+    differences: u64,
+    longest_table: usize,
+    longest_second: usize,
+    start: Instant,
 }
 
-fn admission(random: &mut Random) -> Compared {
-    let table = admit_case(random, LARGE_ONCE_IN);
-    match random.once_in(2) {
-        true => compare::admit(&damage(random, &table, &table)),
-        false => compare::admit(&table),
+impl Outcome {
+    fn new() -> Outcome {
+        Outcome {
+            tally: Tally::default(),
+            differences: 0,
+            longest_table: 0,
+            longest_second: 0,
+            start: Instant::now(),
+        }
     }
-}
 
-fn runs(random: &mut Random) -> Compared {
-    let mut pair = run_case(random, LARGE_ONCE_IN);
-    damage_pair(random, &mut pair);
-    compare::run(&pair.table, &pair.list)
-}
-
-fn regions(random: &mut Random) -> Compared {
-    let mut pair = regions_case(random, LARGE_ONCE_IN);
-    damage_pair(random, &mut pair);
-    compare::regions(&pair.table, &pair.list)
-}
-
-/// In half the cases one more damage, seldom to the table, as its refusals hide all others.
-fn damage_pair(random: &mut Random, pair: &mut PairCase) {
-    match random.below(12) {
-        0..=4 => pair.list = damage(random, &pair.list, &pair.table),
-        5 => pair.table = damage(random, &pair.table, &pair.list),
-        _ => {}
-    }
-}
-
-#[cfg(feature = "following")]
-fn following(random: &mut Random) -> Compared {
-    let input = tzelmaruf_tester::generate::follow_case(random, LARGE_ONCE_IN);
-    let (table, list) = (input.table, input.row);
-    let mut pair = PairCase { table, list };
-    if random.once_in(2) {
-        damage_pair(random, &mut pair);
-    }
-    compare::follow(&pair.table, &pair.list, input.number, &input.buffer)
-}
-
-/// Runs one call through its cases and reports; the count of differences.
-fn run_call(call: &Call, seed: u64, cases: u64) -> u64 {
-    let start = Instant::now();
-    let mut tally = Tally::default();
-    let mut differences = 0;
-    for case in 0..cases {
-        match (call.compare)(&mut Random::of_case(seed, case)) {
-            Ok(met) => tally.count(met.number, met.position),
+    /// Puts one case to both sides, beside the pages on either side in turn.
+    fn try_case(&mut self, rooms: &mut Rooms, call: Call, seed: u64, case: u64) {
+        trying(call.name(), case);
+        let input = input_of(call, seed, case);
+        self.longest_table = self.longest_table.max(input.table.len());
+        self.longest_second = self.longest_second.max(input.second.len());
+        let side = Side::BOTH[case as usize % 2];
+        match input.compare_in(rooms, side) {
+            Ok(met) => self.tally.count(met.number, met.position),
             Err(report) => {
-                differences += 1;
-                if differences <= SHOWN {
-                    println!("{} seed {seed} case {case}: {report}", call.name);
+                self.differences += 1;
+                if self.differences <= SHOWN {
+                    println!("{} seed {seed} case {case}: {report}", call.name());
+                    keep(&input, seed, case);
                 }
             }
         }
-        if (case + 1) % PROGRESS == 0 {
-            eprintln!("{}: {} cases", call.name, case + 1);
+    }
+
+    fn report(&self, call: Call) {
+        println!("{}", self.tally.table(call.with_places()));
+        println!(
+            "longest table {} bytes, longest second file {} bytes",
+            self.longest_table, self.longest_second
+        );
+        let seconds = self.start.elapsed().as_secs();
+        println!("differences: {}; {seconds} seconds", self.differences);
+    }
+}
+
+/// Runs one call through its cases and reports.
+fn run_call(call: Call, seed: u64, cases: u64) -> Outcome {
+    let mut rooms = Rooms::default();
+    let mut outcome = Outcome::new();
+    for case in 0..cases {
+        outcome.try_case(&mut rooms, call, seed, case);
+        let done = case + 1;
+        if done % PROGRESS == 0 {
+            let seconds = outcome.start.elapsed().as_secs();
+            let differences = outcome.differences;
+            let name = call.name();
+            eprintln!(
+                "{name}: {done} of {cases} cases, {differences} differences, {seconds} seconds"
+            );
         }
     }
-    let seconds = start.elapsed().as_secs_f64();
-    println!("{}\n{tally}", call.name);
-    let missing = tally.missing(call.numbers);
-    println!("never answered: {missing:?}; differences: {differences}; {seconds:.1} seconds\n");
-    differences
+    println!("{}: {cases} cases", call.name());
+    outcome.report(call);
+    outcome
+}
+
+/// Writes a case to a file and says how to see it again.
+fn keep(input: &Input, seed: u64, case: u64) {
+    let name = format!("{}-{seed}-{case}.case", input.call.name());
+    let file = PathBuf::from(FOLDER).join(name);
+    let written =
+        std::fs::create_dir_all(FOLDER).and_then(|()| std::fs::write(&file, input.text()));
+    let file = file.display();
+    match written {
+        Ok(()) => println!("kept; to see it again: {COMMAND} replay {file}"),
+        Err(error) => println!("cannot write {file}: {error}"),
+    }
+}
+
+/// What never came of a call's numbers and places; 0 if nothing is missing.
+fn missing(call: Call, tally: &Tally) -> usize {
+    let gaps = tally.gaps(call.numbers(), call.with_places());
+    for gap in &gaps {
+        println!("{}: never {gap}", call.name());
+    }
+    gaps.len()
+}
+
+fn long_run(calls: &[Call], cases: u64) -> u8 {
+    let seed = seed(USUAL_SEED);
+    println!("seed {seed}: {cases} cases of each call\n");
+    report_touched_pages();
+    let (mut differences, mut gaps) = (0, 0);
+    for call in calls {
+        let outcome = run_call(*call, seed, cases);
+        differences += outcome.differences;
+        gaps += missing(*call, &outcome.tally);
+        println!();
+    }
+    println!("{differences} differences, {gaps} numbers or places that never came");
+    match (differences, gaps) {
+        (0, 0) => AGREED,
+        (0, _) => INCOMPLETE,
+        _ => DIFFERENT,
+    }
+}
+
+fn replay(file: &str) -> u8 {
+    let text = std::fs::read_to_string(file).map_err(|error| error.to_string());
+    let input = match text.and_then(|text| Input::from_text(&text)) {
+        Ok(input) => input,
+        Err(wrong) => {
+            eprintln!("long_run: {file}: {wrong}");
+            return USAGE;
+        }
+    };
+    let mut rooms = Rooms::default();
+    let name = input.call.name();
+    for side in Side::BOTH {
+        match input.compare_in(&mut rooms, side) {
+            Ok(met) => println!("{name}: both sides agree: {met:?}"),
+            Err(report) => {
+                println!("{name}: {report}");
+                return DIFFERENT;
+            }
+        }
+    }
+    AGREED
+}
+
+fn usage() -> u8 {
+    let names = Call::ALL.map(Call::name).join(", ");
+    eprintln!("usage: long_run [CASES [CALL]]    (as 2000000; the calls: {names})");
+    eprintln!("       long_run keep CALL CASE");
+    eprintln!("       long_run replay FILE");
+    USAGE
 }
 
 fn main() -> ExitCode {
-    let cases = std::env::args().nth(1).and_then(|text| text.parse().ok());
-    let Some(cases) = cases else {
-        eprintln!("usage: long_run CASES    (for each call, as 2000000)");
-        return ExitCode::from(2);
-    };
-    let seed = seed(30_501);
-    println!("seed {seed}: {cases} cases of each call\n");
-    let differences: u64 = calls().iter().map(|call| run_call(call, seed, cases)).sum();
-    println!("{differences} differences");
-    ExitCode::from(u8::from(differences > 0))
+    let words: Vec<String> = std::env::args().skip(1).collect();
+    let words: Vec<&str> = words.iter().map(String::as_str).collect();
+    let number = |word: &str| word.parse::<u64>().ok();
+    ExitCode::from(match words[..] {
+        [] => long_run(&Call::ALL, USUAL_CASES),
+        ["replay", file] => replay(file),
+        ["keep", call, case] => match (Call::named(call), number(case)) {
+            (Some(call), Some(case)) => {
+                let seed = seed(USUAL_SEED);
+                keep(&input_of(call, seed, case), seed, case);
+                AGREED
+            }
+            _ => usage(),
+        },
+        [cases] => number(cases).map_or_else(usage, |cases| long_run(&Call::ALL, cases)),
+        [cases, call] => match (number(cases), Call::named(call)) {
+            (Some(cases), Some(call)) => long_run(&[call], cases),
+            _ => usage(),
+        },
+        _ => usage(),
+    })
 }

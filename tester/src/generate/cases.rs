@@ -10,7 +10,7 @@ use crate::follow::{next_rows, WAIT};
 use crate::format::encode_table;
 use crate::region::row_length;
 use crate::region_list::encode_regions;
-use crate::run::encode_run;
+use crate::run::{encode_run, GREATEST_STEPS};
 use crate::successor::by_intervals::is_enabled;
 use crate::Region;
 
@@ -87,6 +87,7 @@ pub fn run_case(random: &mut Random, large_once_in: usize) -> PairCase {
     }
     let mut run = run.unwrap_or_else(|| {
         let steps = match random.below(40) {
+            0 if random.once_in(20) => usize::from(GREATEST_STEPS),
             0 => 300,
             1 => 0,
             _ => 1 + random.below(8),

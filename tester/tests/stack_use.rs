@@ -1,0 +1,85 @@
+//! The stack that the three C functions use, measured on many files, against
+//! what the compiled code can use at most (`tests/stack.sh` beside this folder).
+
+mod common;
+use common::*;
+
+use std::collections::HashMap;
+use std::process::Command;
+use tzelmaruf_tester::automaton::Update;
+use tzelmaruf_tester::call::{Call, Input};
+use tzelmaruf_tester::format::encode_table;
+use tzelmaruf_tester::generate::{seed, Random};
+use tzelmaruf_tester::library::Function;
+use tzelmaruf_tester::needs_checker;
+use tzelmaruf_tester::region::all_rows;
+use tzelmaruf_tester::region_list::encode_regions;
+use tzelmaruf_tester::stack::Stack;
+
+needs_checker!();
+
+const CASES: u64 = 20_000;
+
+/// Twice the limit that the documents name.
+const ROOM: usize = 1 << 15;
+
+/// The bounds by name, as the script prints them.
+fn bounds() -> HashMap<String, usize> {
+    let script = concat!(env!("CARGO_MANIFEST_DIR"), "/../tests/stack.sh");
+    let library = concat!(env!("TZELMARUF_ARCHIVES"), "/libchecker.a");
+    let output = Command::new("bash").args([script, library]).output();
+    let output = output.expect("bash runs tests/stack.sh");
+    let errors = String::from_utf8_lossy(&output.stderr).into_owned();
+    assert!(output.status.success(), "{errors}");
+    let lines = String::from_utf8(output.stdout).unwrap();
+    let pair = |line: &str| {
+        let (name, bytes) = line.split_once(' ').unwrap();
+        (name.to_string(), bytes.parse().unwrap())
+    };
+    lines.lines().map(pair).collect()
+}
+
+/// The most that a function used on random inputs of its call.
+fn used_at_random(function: Function, call: Call, seed: u64) -> usize {
+    let mut stack = Stack::new(ROOM);
+    let used = (0..CASES).map(|case| {
+        let mut input = Input::random(call, &mut Random::of_case(seed, case));
+        let (table, second) = (&mut input.table, &mut input.second);
+        stack.call(function, table, second).1
+    });
+    used.max().unwrap()
+}
+
+/// Four clocks that an edge makes anything of, and all their rows: the deepest walk there is.
+fn used_by_the_deepest_walk() -> usize {
+    let free: Vec<Update> = vec![constant(AtLeast, 0); 4];
+    let automaton = automaton(&[1, 1, 1, 0], &[false], vec![edge(0, 0, &[], &free)]);
+    let rows = all_rows(&automaton, 4_096).expect("the rows fit in a list");
+    let mut table = encode_table(&automaton);
+    let mut list = encode_regions(4, &rows);
+    let mut stack = Stack::new(ROOM);
+    let (answer, used) = stack.call(Function::CheckRegions, &mut table, &mut list);
+    assert_eq!(answer, rows.len() as u32);
+    used
+}
+
+#[test]
+fn the_stack_used_is_within_the_bounds() {
+    let seed = seed(30_801);
+    println!("seed {seed}: {CASES} cases of each call");
+    let bounds = bounds();
+    let calls = [
+        (Function::Admit, Call::Admission),
+        (Function::CheckRun, Call::Run),
+        (Function::CheckRegions, Call::Regions),
+    ];
+    for (function, call) in calls {
+        let mut used = used_at_random(function, call, seed);
+        if function == Function::CheckRegions {
+            used = used.max(used_by_the_deepest_walk());
+        }
+        let bound = bounds[function.name()];
+        println!("{}: {used} bytes used, bound {bound}", function.name());
+        assert!(used > 0 && used <= bound, "{}", function.name());
+    }
+}

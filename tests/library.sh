@@ -1,0 +1,56 @@
+#!/usr/bin/env bash
+# What the static library holds, needs and uses: three functions outward, nothing from outside but memory copies of the C library, no memory that
+# could keep anything between calls, and a bounded stack. The last line is 'N passed, M failed'.
+set -u
+cd "$(dirname "$0")/.." || exit 1
+library=target/staticlib/libchecker.a
+# the most stack that docs/EVIDENCE.md promises for each function, in bytes
+limit=16384
+passed=0 failed=0
+
+ok() { passed=$((passed + 1)); }
+bad() { failed=$((failed + 1)); echo "library: $*"; }
+
+# is WHAT EXPECTED GOT
+is() { if [ "$2" = "$3" ]; then ok; else bad "$1: '$3', expected '$2'"; fi; }
+
+# stack.awk on code made up: two functions, of which one calls itself, and then with one line more
+made_up() {
+  printf '%s\n' '0000 <outer>:' ' 0: push   %rbx' ' 1: sub    $0x20,%rsp' ' 5: call   a <outer+0xa>' '  6: R_X86_64_PLT32 inner-0x4' ' a: ret' \
+    '0000 <inner>:' ' 0: add    $0xffffffffffffff80,%rsp' ' 4: call   0 <inner>' ' 9: ret' "$@"
+}
+bound() { awk -v outward=outer -v levels="$1" -f tests/stack.awk 2> /dev/null; }
+is 'the bound of code made up' 'outer 584' "$(made_up | bound inner=3)"
+# noticed WHAT LEVELS LINES..: the code with these lines more has no bound
+noticed() {
+  local what=$1 levels=$2
+  shift 2
+  if made_up "$@" | bound "$levels" > /dev/null; then bad "goes unnoticed: $what"; else ok; fi
+}
+noticed 'recursion without a limit' ''
+noticed 'a call through a pointer' inner=3 ' a: call   *%rax'
+noticed 'a frame of any size' inner=3 ' a: sub    %rax,%rsp'
+noticed 'an aligned frame' inner=3 ' a: and    $0xffffffffffffffe0,%rsp'
+noticed 'a frame pointer' inner=3 ' a: leave'
+noticed 'a function from outside' inner=3 ' a: call   0 <elsewhere>'
+
+if ! command -v objdump > /dev/null; then
+  bad "no command 'objdump' on the PATH: it comes with binutils, as nm and size do"
+elif [ ! -f "$library" ]; then
+  bad "there is no $library: build it with 'rt staticlib checker'"
+else
+  outward=$(nm -g --defined-only "$library" | awk 'NF == 3 {print $3}' | sort | tr '\n' ' ')
+  is 'functions outward' 'tzelmaruf_admit tzelmaruf_check_regions tzelmaruf_check_run ' "$outward"
+  needed=$(nm -u "$library" | awk '$1 == "U" {print $2}' | grep -vxE 'memcpy|memmove|memset|memcmp' | sort | tr '\n' ' ')
+  is 'symbols from outside besides memory copies' '' "$needed"
+  writable=$(size "$library" | awk 'NR > 1 {sum += $2 + $3} END {print sum + 0}')
+  is 'bytes of writable data' 0 "$writable"
+  if bounds=$(tests/stack.sh "$library"); then ok; else bad "the stack has no bound"; fi
+  while read -r name bytes; do
+    if [ "$bytes" -le "$limit" ]; then ok; else bad "$name may use $bytes bytes of stack, the limit is $limit"; fi
+  done <<< "$bounds"
+  echo "$bounds"
+fi
+
+echo "$passed passed, $failed failed"
+[ "$failed" -eq 0 ]
