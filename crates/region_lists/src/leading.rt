@@ -126,7 +126,7 @@ fn leads_on(
     }
 }
 
-// How many rows are in the locations before this one.
+// How many rows are in the locations before this one: looked for by halves, since a hint past the end tells nothing.
 fn rows_before(list: &[u8], clocks: Clocks, count: usize, location: u8) -> usize
     requires { ⌜ Listed clocks (now list) count ⌝ }
     requires { ⌜ Ascends (listed-rows (clocks .count) (now list) count) ⌝ }
@@ -137,7 +137,7 @@ fn rows_before(list: &[u8], clocks: Clocks, count: usize, location: u8) -> usize
         intervals: [0; 4],
         ranks: [0; 4],
     };
-    rows_below(list, clocks, count, least, 0)
+    rows_below(list, clocks, count, least, 2 * count)
 }
 
 // The place of a row that lacks a next row by this edge, or 0. Rows ascend, so those in the edge's source location stand together. The regions
@@ -153,7 +153,7 @@ fn lacks_by_edge(list: &[u8], clocks: Clocks, count: usize, e: Edge) -> u16
     let sole = is_deterministic(clocks, e);
     let mut walked = [missing(); 64];
     let mut i = rows_before(list, clocks, count, e.source);
-    let mut hint = rows_before(list, clocks, count, e.target);
+    let mut hint = 2 * count;
     while i < count {
         let row = row_at(list, n, i);
         if row.location != e.source {

@@ -1,5 +1,6 @@
 use Rattle.region_lists.proofs.Laws.Stretch.{starts}
 use denote.Ref.{now}
+use native.Mathlib.Omega.{arith}
 use borrow.Author.Needs.{needs}
 use Rattle.region_lists.proofs.leading.rows_before.Statement.{statement}
 use Rattle.region_lists.proofs.leading.rows_before.Tie as tie
@@ -7,13 +8,17 @@ use Rattle.region_lists.proofs.leading.rows_before.Reads as reads
 use Rattle.region_lists.proofs.leading.rows_before.Lts as lts
 use Rattle.region_lists.proofs.listed.rows_below.Reads as rows-below-reads
 
--- src/leading.rt:126:5
+-- src/leading.rt:140:44
+mul-rows-below : tie.Need-mul-rows-below
+mul-rows-below c = let s = c .before .pre .0 .short in omega arith
+
+-- src/leading.rt:140:5
 rows-below-requires : tie.Need-rows-below-requires
 rows-below-requires c κs = search needs
 
--- src/leading.rt:116:1
+-- src/leading.rt:130:1
 returns : tie.Need-returns
 returns c = let a = c .before .before .args in let p = c .before .before .pre in starts (a .clocks .count) (now (a .list)) (a .count) (a .location) _ (p .0 .few .few) (c .rows-below .ensures)
 
 pub rows-before-spec : {M : Type 1} → statement M
-rows-before-spec = tie.close (tie.spec rows-below-requires returns)
+rows-before-spec = tie.close (tie.spec mul-rows-below rows-below-requires returns)
