@@ -9,7 +9,7 @@
  *   accepted: the count (records of a table, steps of a run, rows of a region list), which is below 65,536;
  *   refused:  the refusal number times 65,536 plus the place, the number of the record in its file (the header is 0).
  *
- * Link with libchecker.a (`rt staticlib checker` writes it to target/staticlib/). It needs memcpy from outside, and nothing else.
+ * Link with libchecker.a (`rt staticlib checker` writes it to target/staticlib/). It needs nothing from outside.
  */
 #ifndef TZELMARUF_H
 #define TZELMARUF_H

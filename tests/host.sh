@@ -1,7 +1,7 @@
 #!/usr/bin/env bash
 # Builds the C program with the header and the static library alone, and runs it, and a program that damages files (damage.c), under valgrind and
 # in a build with the address and undefined-behaviour sanitizers. Files stand in heap blocks of exactly their size: valgrind watches every load of
-# the library too, the sanitizers only the C code around it and its calls of memcpy. The last line is 'N passed, M failed'.
+# the library too, the sanitizers only the C code around it. The last line is 'N passed, M failed'.
 set -u
 cd "$(dirname "$0")/.." || exit 1
 room=$(mktemp -d) && trap 'rm -rf "$room"' EXIT
