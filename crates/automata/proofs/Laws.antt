@@ -4,6 +4,7 @@ pub mod Order
 pub mod Tests
 pub mod Lists
 pub mod Members
+pub mod Ordered
 pub mod Count
 -- one clock, a row's ranks
 pub mod Clocks

@@ -1,6 +1,4 @@
 -- The laws of the region-list check, as the code goes.
--- the order of rows
-pub mod Ordered
 -- region lists
 pub mod Listed
 pub mod ListedNumbers

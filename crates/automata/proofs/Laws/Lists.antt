@@ -1,5 +1,6 @@
 -- Lists clock by clock: element z of `each`, `later` and `scaled`; the greatest; a list from its elements. Assumes nothing.
 use Prim.Native.Nat.{ℕ, zero, suc, _+_, _*_, _≤_, _<_}
+use Rattle.automata.specs.Rows.{from}
 use native.Mathlib.Nat.{le-of-suc-le-suc, mul-zero, mul-add, add-zero, add-assoc}
 use native.Mathlib.Decide.{decLe}
 use native.Mathlib.Omega.{arith}
@@ -86,3 +87,7 @@ greatest-at (k ∷ ks) h = go (decLe (greatest ks) k) (greatest-at ks)
     go : Dec (greatest ks ≤ k) → (0 < greatest ks → (z : ℕ) × (z < length ks) × (at ks z ≡ greatest ks)) → (z : ℕ) × (z < length (k ∷ ks)) × (at (k ∷ ks) z ≡ greatest (k ∷ ks))
     go (yes l) next = (0, omega arith, omega arith)
     go (no l) next = let (z, i, e) = next (omega arith) in (suc z, omega arith, omega arith)
+
+pub length-from : (a n : ℕ) → length (from a n) ≡ n
+length-from a zero = refl
+length-from a (suc n) = ap suc (length-from (a + 1) n)

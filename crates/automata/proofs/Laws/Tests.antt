@@ -89,3 +89,14 @@ someb-law {P} (suc n) f l = go (f n) (l n) (someb-law n f l)
     go : (b : Bool) → Says b (P n) → Says (someb n f) ((z : ℕ) × (z < n) × P z) → Says (b || someb n f) ((z : ℕ) × (z < suc n) × P z)
     go true p ih = (λ h. (n, omega arith, p .0 refl), λ t. refl)
     go false p ih = (λ h. let (z, k, q) = ih .0 h in (z, omega arith, q), λ t. ih .1 (shorter (t .0) (t .1) (t .2) (λ q. never (p .1 q)) (ℕ-discrete (t .0) n)))
+
+-- two tests that say the same
+pub same-test : {P : Type 0} (a b : Bool) → Says a P → Says b P → a ≡ b
+same-test true true p q = refl
+same-test true false p q = sym (q .1 (p .0 refl))
+same-test false true p q = p .1 (q .0 refl)
+same-test false false p q = refl
+
+pub and-false : (b : Bool) → (b && false) ≡ false
+and-false true = refl
+and-false false = refl

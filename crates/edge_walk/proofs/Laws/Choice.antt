@@ -20,7 +20,7 @@ use Rattle.edge_walk.specs.Choice.{Agree, Candidate, Ready, numbers-of, 
 use Rattle.regions.specs.declared.clock_move.Move.{Move}
 use Rattle.regions.specs.declared.region.Region.{Region}
 use Rattle.edge_walk.specs.declared.choice.Search.{Search}
-use Rattle.automata.proofs.Laws.Tests.{Says, never, true-or-false, refutes, ltb-law, not-law, and-law}
+use Rattle.automata.proofs.Laws.Tests.{Says, never, true-or-false, refutes, ltb-law, not-law, and-law, and-false}
 use Rattle.automata.proofs.Laws.Clocks.{openb-law}
 use Rattle.automata.proofs.Laws.Ranks.{rank-le}
 use Rattle.regions.proofs.Laws.Values.{at-take, length-first}
@@ -170,10 +170,6 @@ module _ (s : Search) (part : Region) (i : ℕ) where
   pub not-yet : i ≤ s .clocks .count + 1 → false ≡ stuckb s part i
   unfolding stuckb placed-at rank-fits-at allb greedy-at
   not-yet h = let z : i - 1 - s .clocks .count ≡ 0 = omega arith in rw (z, le-leb 0 (2 * s .moves .ranks) (omega arith)) (sym (and-false (ltb (s .clocks .count) i)))
-    where
-      and-false : (b : Bool) → (b && false) ≡ false
-      and-false true = refl
-      and-false false = refl
 
   pub stuck-is : (b : Bool) → s .clocks .count < i → b ≡ placed-at (s .moves .each) (s .moves .ranks) (i - 1 - s .clocks .count) (part .intervals) (part .ranks)
       → not b ≡ stuckb s part i

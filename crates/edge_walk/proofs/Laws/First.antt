@@ -1,12 +1,13 @@
 -- The first of a sorted list's rows above a floor is the least of them. Assumes nothing.
 use native.Mathlib.Omega.{arith}
+use Rattle.automata.proofs.Laws.Ordered.{not-both-below}
 use mathlib.Core.Path.{_≡_, refl, sym, ap, _∙_}
 use mathlib.Core.Bool.{Bool, true, false, cond}
 use mathlib.Core.Logic.{_⊎_, inl, inr}
 use mathlib.Core.Option.{Option, none, some}
 use mathlib.Core.List.{List, [], _∷_, List·Memᴰ·head, List·Memᴰ·tail, List·Memᴰ·not-nil, List·Memᴰ·cases-cons}
 use Prim.Native.Nat.{ℕ}
-use Rattle.automata.specs.Row.{Row, Before, Below}
+use Rattle.automata.specs.Row.{Row, Below}
 use Rattle.automata.specs.Closed.{Mem}
 use Rattle.regions.specs.Values.{sought}
 use Rattle.edge_walk.specs.Walk.{above, first-above}
@@ -14,27 +15,6 @@ use Rattle.edge_walk.specs.Choice.{First, Answers}
 use Rattle.regions.specs.declared.region.Sought.{Sought}
 use Rattle.automata.proofs.Laws.Tests.{never}
 use Rattle.automata.proofs.Laws.Members.{Sorted}
-use Rattle.edge_walk.proofs.Laws.Numbers.{not-before-itself}
-
--- of two rows one at most is below the other --------------------------------------------------------------------------------------------
-
-before-one-way : (xs ys : List ℕ) → Before xs ys → Before ys xs → ⊥
-before-one-way [] [] a b = a
-before-one-way [] (y ∷ ys) a b = b
-before-one-way (x ∷ xs) [] a b = a
-before-one-way (x ∷ xs) (y ∷ ys) (inl a) (inl b) = omega arith
-before-one-way (x ∷ xs) (y ∷ ys) (inl a) (inr b) = omega arith
-before-one-way (x ∷ xs) (y ∷ ys) (inr a) (inl b) = omega arith
-before-one-way (x ∷ xs) (y ∷ ys) (inr a) (inr b) = before-one-way xs ys (a .1) (b .1)
-
-below-one-way : (r s : Row) → Below r s → Below s r → ⊥
-below-one-way r s (inl a) (inl b) = omega arith
-below-one-way r s (inl a) (inr b) = omega arith
-below-one-way r s (inr a) (inl b) = omega arith
-below-one-way r s (inr (e, inl a)) (inr (f, inl b)) = before-one-way (r .intervals) (s .intervals) a b
-below-one-way r s (inr (e, inl a)) (inr (f, inr b)) = not-before-itself (r .intervals) (rw (b .0) at a)
-below-one-way r s (inr (e, inr a)) (inr (f, inl b)) = not-before-itself (s .intervals) (rw (a .0) at b)
-below-one-way r s (inr (e, inr a)) (inr (f, inr b)) = before-one-way (r .ranks) (s .ranks) (a .1) (b .1)
 
 -- the first ---------------------------------------------------------------------------------------------------------------------------
 
@@ -70,7 +50,7 @@ module _ (floor : Option Row) where
         where
           split : (y ≡ r) ⊎ Mem y rows → some y ≡ some r
           split (inl q) = ap some q
-          split (inr k) = absurd (below-one-way y r b (s .0 y k))
+          split (inr k) = absurd (not-both-below y r b (s .0 y k))
 
       go : (b : Bool) → above floor r ≡ b → ((o : Option Row) → First (Among rows) o → o ≡ first-above floor rows)
           → (o : Option Row) → First (Among (r ∷ rows)) o → o ≡ cond b (some r) (first-above floor rows)

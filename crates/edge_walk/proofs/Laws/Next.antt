@@ -57,7 +57,7 @@ pub led-out : (c : List ℕ) (e : Edge) (r x : Row) → Mem x (edge-rows c e r) 
 unfolding edge-rows
 led-out c e r x m = led-law c e r x .0 (select-out (leadsb c e r) (rows-at c (e .target)) m .1)
 
-led-sorted : (c : List ℕ) (e : Edge) (r : Row) → Sorted Below (edge-rows c e r)
+pub led-sorted : (c : List ℕ) (e : Edge) (r : Row) → Sorted Below (edge-rows c e r)
 unfolding edge-rows
 led-sorted c e r = sorted-select Below (leadsb c e r) (rows-at c (e .target)) (rows-at-sorted c (e .target))
 

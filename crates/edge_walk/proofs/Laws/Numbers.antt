@@ -35,11 +35,6 @@ not-after (x ∷ xs) (y ∷ ys) zero e l a (inr h) = omega arith
 not-after (x ∷ xs) (y ∷ ys) (suc i) e l a (inl h) = let q : x ≡ y = a 0 (omega arith) in absurd (omega arith)
 not-after (x ∷ xs) (y ∷ ys) (suc i) e l a (inr h) = not-after xs ys i (omega arith) (omega arith) (λ j k. a (suc j) (omega arith)) (h .1)
 
-pub not-before-itself : (xs : List ℕ) → Before xs xs → ⊥
-not-before-itself [] b = b
-not-before-itself (x ∷ xs) (inl h) = omega arith
-not-before-itself (x ∷ xs) (inr h) = not-before-itself xs (h .1)
-
 -- rows ----------------------------------------------------------------------------------------------------------------------------------
 
 module _ (n : ℕ) (x : Row) (js : length (x .intervals) ≡ n) where

@@ -1,6 +1,7 @@
 -- The walk, number by number: what one choice leaves to the next, what the last leaves, and the first of the rows as the list has it.
 -- Assumes nothing.
 use Prim.Native.Nat.{ℕ, _+_, _*_, _≤_, _<_}
+use Rattle.automata.proofs.Laws.Ordered.{before-itself}
 use native.Mathlib.Decide.{ℕ-discrete}
 use native.Mathlib.Omega.{arith}
 use mathlib.Core.Path.{_≡_, refl, sym, ap, _∙_}
@@ -18,7 +19,7 @@ use Rattle.regions.specs.Order.{numbers}
 use Rattle.edge_walk.specs.Choice.{Agree, Wanted, First, Answers}
 use Rattle.regions.specs.declared.region.Sought.{Sought}
 use Rattle.automata.proofs.Laws.Tests.{Says, never, and-law, eqb-law}
-use Rattle.edge_walk.proofs.Laws.Numbers.{before-at, not-after, not-before-itself, count-numbers, before-below, numbers-equal}
+use Rattle.edge_walk.proofs.Laws.Numbers.{before-at, not-after, count-numbers, before-below, numbers-equal}
 
 -- answers -------------------------------------------------------------------------------------------------------------------------------
 
@@ -138,7 +139,7 @@ module _ (n : ℕ) (C : Row → Type 0) (sized : (x : Row) → C x → (length (
     pub floor-alone : tight ≡ true → First Q none
     floor-alone t x q =
         let e : ps ≡ floor = ext-getD 0 ps floor (long ∙ sym few) (λ j l. along t j (omega arith)) in
-        not-before-itself floor (rw (chosen x q ∙ e) at (q .above t))
+        before-itself floor (rw (chosen x q ∙ e) at (q .above t))
 
     module _ (y : Row) (s : length (y .intervals) ≡ n) (f : numbers y ≡ ps) where
       pub only : (x : Row) → Q x → x ≡ y

@@ -1,5 +1,7 @@
 -- The follower's loops: what has been counted or written after so many steps, and what each way out makes of it. Assumes nothing.
 use Prim.Native.Nat.{ℕ, _+_, _*_, _-_, _≤_, _<_}
+use Rattle.edge_walk.proofs.Laws.Next.{led-sorted}
+use Rattle.regions.proofs.Laws.Values.{row-region}
 use native.Mathlib.Omega.{arith}
 use mathlib.Core.Path.{_≡_, refl, sym, ap, _∙_}
 use mathlib.Core.Bool.{true, false}
@@ -28,7 +30,6 @@ use Rattle.automata.proofs.Laws.Successors.{edge-rows-law}
 use Rattle.table_files.specs.Answer.{Answer, accepted, refused}
 use Rattle.calls.specs.RegionFile.{row-bytes, rows-bytes}
 use Rattle.following.specs.Following.{Stands, Leaves, rows-waited, rows-led, fits, told, put}
-use Rattle.rows.proofs.Laws.RowRecords.{row-back}
 use Rattle.rows.proofs.Laws.Writing.{rest-next}
 use Rattle.following.proofs.Laws.Stepping.{Sized, Listed, Stepped, Found, all-found, one-found}
 
@@ -147,10 +148,6 @@ module _ (n : ℕ) (rows : List Row) (L : Listed n rows) (o buffer : List ℕ) (
 
 -- the rows of an edge and of a wait ----------------------------------------------------------------------------------------------
 
-edge-sorted : (c : List ℕ) (e : Edge) (r : Row) → Sorted Below (edge-rows c e r)
-unfolding edge-rows
-edge-sorted c e r = sorted-select Below (leadsb c e r) (rows-at c (e .target)) (rows-at-sorted c (e .target))
-
 module _ (k : clocks-code.Clocks) (four : length (k .bounds) ≡ 4) (r : Region) (S : Stands k r) where
   bounds-long : length (bounds-of k) ≡ k .count
   bounds-long = length-take-le (k .count) (k .bounds) (omega (arith, S .few .few))
@@ -164,7 +161,7 @@ module _ (k : clocks-code.Clocks) (four : length (k .bounds) ≡ 4) (r : Region)
 
   pub led-listed : (e : edge-code.Edge) → Leaves k e → Listed (k .count) (rows-led k e r)
   led-listed e E = record {
-    sorted = edge-sorted (bounds-of k) (edge-of (k .count) e) (row-of (k .count) r);
+    sorted = led-sorted (bounds-of k) (edge-of (k .count) e) (row-of (k .count) r);
     sized = λ s m. row-sized s (edge-rows-law (bounds-of k) (edge-of (k .count) e) (row-of (k .count) r) s (S .is-row) (E .bounded) .0 m .is-row);
   }
 
@@ -202,7 +199,7 @@ module _ (k : clocks-code.Clocks) (four : length (k .bounds) ≡ 4) (r : Region)
       go (some s) p q f =
           let size : Sized (k .count) s = row-sized k four r S s (wait-row (bounds-of k) (row-of (k .count) r) s (S .is-row) p) in
           let same : row-of (k .count) (next .region) ≡ s =
-          ap (λ (s : Sought). row-of (k .count) (s .region)) q ∙ row-back (k .count) s (size .intervals-length) (size .ranks-length) in
+          ap (λ (s : Sought). row-of (k .count) (s .region)) q ∙ row-region (k .count) s (size .intervals-length) (size .ranks-length) in
           rw same (refl, size)
 
   pub none-waited : (o : List ℕ) → next .found ≡ false → Done (rows-waited k r) o (accepted 0) o

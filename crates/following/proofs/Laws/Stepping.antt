@@ -1,5 +1,7 @@
 -- Stepping along rows that ascend: the first row above the one found last is the next of them. Assumes nothing.
 use Prim.Native.Nat.{ℕ, zero, suc, _+_, _≤_, _<_}
+use Rattle.regions.proofs.Laws.Values.{row-region}
+use Rattle.automata.proofs.Laws.Ordered.{not-both-below}
 use native.Mathlib.Numerals.{add-one}
 use native.Mathlib.Omega.{arith}
 use mathlib.Core.Path.{_≡_, refl, sym, ap, _∙_}
@@ -9,7 +11,7 @@ use mathlib.Core.Option.{Option, none, some}
 use mathlib.Core.List.{List, [], _∷_, _++_, List·Memᴰ·head, List·Memᴰ·tail}
 use lib.ListN.{length, take}
 use Rattle.automata.specs.Clocks.{at}
-use Rattle.automata.specs.Row.{Row, Before, Below}
+use Rattle.automata.specs.Row.{Row, Below}
 use Rattle.automata.specs.Closed.{Mem}
 use Rattle.automata.specs.Checks.{belowb}
 use Rattle.edge_walk.specs.Walk.{first-above}
@@ -18,43 +20,14 @@ use Rattle.regions.specs.declared.region.Sought.{Sought}
 use Rattle.automata.proofs.Laws.Tests.{never, fails}
 use Rattle.automata.proofs.Laws.Checks.{belowb-law}
 use Rattle.automata.proofs.Laws.Members.{Sorted}
-use Rattle.rows.proofs.Laws.RowRecords.{row-back}
 
 -- no row is above one that is above it -----------------------------------------------------------------------------------------
 
-before-once : (xs ys : List ℕ) → Before xs ys → Before ys xs → ⊥
-before-once [] [] b k = b
-before-once [] (y ∷ ys) b k = k
-before-once (x ∷ xs) [] b k = b
-before-once (x ∷ xs) (y ∷ ys) (inl h) (inl k) = omega arith
-before-once (x ∷ xs) (y ∷ ys) (inl h) (inr k) = omega (arith, k .0)
-before-once (x ∷ xs) (y ∷ ys) (inr h) (inl k) = omega (arith, h .0)
-before-once (x ∷ xs) (y ∷ ys) (inr h) (inr k) = before-once xs ys (h .1) (k .1)
-
--- what decides where the locations are equal
-abbrev Rest : Row → Row → Type 0
-Rest r s = Before (r .intervals) (s .intervals) ⊎ ((r .intervals ≡ s .intervals) × Before (r .ranks) (s .ranks))
-
-below-once : (r s : Row) → Below r s → Below s r → ⊥
-below-once r s (inl h) (inl k) = omega arith
-below-once r s (inl h) (inr k) = omega (arith, k .0)
-below-once r s (inr h) (inl k) = omega (arith, h .0)
-below-once r s (inr (e, h)) (inr (f, k)) = go h k
-  where
-    same-before : (xs ys : List ℕ) → xs ≡ ys → Before xs ys → ⊥
-    same-before xs ys e b = before-once xs xs (rw (← e) at b) (rw (← e) at b)
-
-    go : Rest r s → Rest s r → ⊥
-    go (inl h) (inl k) = before-once (r .intervals) (s .intervals) h k
-    go (inl h) (inr k) = same-before (r .intervals) (s .intervals) (sym (k .0)) h
-    go (inr h) (inl k) = same-before (s .intervals) (r .intervals) (sym (h .0)) k
-    go (inr h) (inr k) = before-once (r .ranks) (s .ranks) (h .1) (k .1)
-
 not-below : (r s : Row) → Below s r → belowb r s ≡ false
-not-below r s h = fails (belowb r s) (belowb-law r s) (λ k. below-once r s k h)
+not-below r s h = fails (belowb r s) (belowb-law r s) (λ k. not-both-below r s k h)
 
 not-itself : (r : Row) → belowb r r ≡ false
-not-itself r = fails (belowb r r) (belowb-law r r) (λ k. below-once r r k k)
+not-itself r = fails (belowb r r) (belowb-law r r) (λ k. not-both-below r r k k)
 
 -- the next row -----------------------------------------------------------------------------------------------------------------
 
@@ -155,7 +128,7 @@ module _ (n : ℕ) (rows : List Row) (L : Listed n rows) (floor next : Sought) (
       go (some r) p q f =
           let (h, t) = nth-take rows i p in
           let size = L .sized r (nth-in rows i p) in
-          let back : row-of n (region-of r) ≡ r = row-back n r (size .intervals-length) (size .ranks-length) in
+          let back : row-of n (region-of r) ≡ r = row-region n r (size .intervals-length) (size .ranks-length) in
           let same : row-of n (next .region) ≡ r = ap (λ (s : Sought). row-of n (s .region)) q ∙ back in
           record {
             there = h;

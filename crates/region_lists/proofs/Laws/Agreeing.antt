@@ -1,5 +1,6 @@
 -- Two regions compared in the clocks that an edge reads, clock by clock. Assumes nothing.
 use Prim.Native.Nat.{ℕ, zero, suc, _+_, _≤_, _<_}
+use Rattle.regions.proofs.Laws.Values.{allb-fails}
 use native.Mathlib.Numerals.{add-one}
 use native.Mathlib.Decide.{ℕ-discrete}
 use native.Mathlib.Omega.{arith}
@@ -54,19 +55,6 @@ module _ (n : ℕ) (e : edge-code.Edge) (z : ℕ) (l : z < n) where
   update-bounded c sized B = rw update-is at (B .updates-in z (omega arith))
 
 -- clock by clock -------------------------------------------------------------------------------------------------------------------------
-
-allb-fails : (f : ℕ → Bool) (n z : ℕ) → z < n → f z ≡ false → allb n f ≡ false
-unfolding allb
-allb-fails f zero z h e = absurd (omega arith)
-allb-fails f (suc n) z h e = go (ℕ-discrete z n) (allb-fails f n z)
-  where
-    and-false : (b : Bool) → (b && false) ≡ false
-    and-false true = refl
-    and-false false = refl
-
-    go : Dec (z ≡ n) → (z < n → f z ≡ false → allb n f ≡ false) → (allb n f && f n) ≡ false
-    go (yes q) on = rw (← q, e) (and-false (allb z f))
-    go (no q) on = rw (on (omega arith) e) refl
 
 module _ (n : ℕ) (e : Edge) (r s : Row) where
   -- the clocks before clock z

@@ -1,5 +1,6 @@
 -- The rows in a region list's bytes: where each stands, and what a search by halves finds. Assumes nothing.
 use Prim.Native.Nat.{ℕ, zero, suc, _+_, _*_, _≤_, _<_}
+use Rattle.automata.proofs.Laws.Lists.{length-from}
 use native.Mathlib.Nat.{zero-add, suc-mul, mul-le-mul-right}
 use native.Mathlib.Decide.{ℕ-discrete}
 use native.Mathlib.Omega.{arith}
@@ -19,7 +20,7 @@ use Rattle.automata.proofs.Laws.Members.{getD-in, in-getD}
 use Rattle.automata.proofs.Laws.Checks.{same-row-law, belowb-law, has-law}
 use Rattle.region_lists.specs.Listed.{listed-row, listed-rows, Splits}
 use Rattle.rows.proofs.Laws.RowRecords.{row-in-back}
-use Rattle.region_lists.proofs.Laws.Ordered.{below-trans, below-itself, ascends-sorted, sorted-at}
+use Rattle.automata.proofs.Laws.Ordered.{below-trans, below-itself, ascends-sorted, sorted-at}
 
 -- row i ends before the list does
 pub row-room : (s count i len : ℕ) → 4 + count * s ≤ len → i < count → 4 + i * s + s ≤ len
@@ -36,10 +37,6 @@ pub listed-below : (n : ℕ) (list : List ℕ) (i j : ℕ) (r s : Region) → r 
 listed-below n list i j r s p q b e = sym (e ∙ (λ k. belowb (listed-again n list i r p k) (listed-again n list j s q k)))
 
 -- rows by number -------------------------------------------------------------------------------------------------------------------
-
-length-from : (a n : ℕ) → length (from a n) ≡ n
-length-from a zero = refl
-length-from a (suc n) = ap suc (length-from (a + 1) n)
 
 at-from : {A : Type 0} (f : ℕ → A) (a n i : ℕ) (d : A) → i < n → getD (map f (from a n)) i d ≡ f (a + i)
 at-from f a zero i d h = absurd (omega arith)

@@ -1,5 +1,6 @@
 -- Whether the next rows of every row are in the list, as the code asks it: row by row, by waiting and edge by edge. Assumes nothing.
 use Prim.Native.Nat.{ℕ, zero, suc, _+_, _≤_, _<_}
+use Rattle.regions.proofs.Laws.Values.{row-region}
 use native.Mathlib.Numerals.{add-one}
 use native.Mathlib.Decide.{ℕ-discrete}
 use native.Mathlib.Omega.{arith}
@@ -36,7 +37,6 @@ use Rattle.region_lists.specs.Listed.{listed-row, listed-rows}
 use Rattle.region_lists.specs.RegionList.{by-edges, NextListed}
 use Rattle.region_lists.specs.Leading.{reads-same, Kept}
 use Rattle.region_lists.proofs.Laws.SameNext.{select-none, same-rows}
-use Rattle.rows.proofs.Laws.RowRecords.{row-back}
 use Rattle.region_lists.proofs.Laws.Listed.{listed-length, listed-at, in-listed}
 
 -- one region that may be missing ---------------------------------------------------------------------------------------------------------
@@ -57,7 +57,7 @@ came : (n : ℕ) (o : Option Row) (s : Sought) → s ≡ sought o → ((x : Row)
 came n none s e z = nothing refl (ap (λ (t : Sought). t .found) e)
 came n (some x) s e z =
     let (p, q) = z x refl in
-    let back : row-of n (region-of x) ≡ x = row-back n x p q in
+    let back : row-of n (region-of x) ≡ x = row-region n x p q in
     something x refl (ap (λ (t : Sought). t .found) e) (ap (λ (t : Sought). row-of n (t .region)) e ∙ back) (ap (found-of n) e ∙ ap some back)
 
 and-true : (b : Bool) → b ≡ (b && true)
@@ -143,6 +143,10 @@ module _ (next : Row → List Row) (n : ℕ) (list : List ℕ) (count : ℕ) whe
     pub next-all : count ≤ i → NextListed next rows 0
     next-all l r m = let (j, h, e) = in-listed n list count r m in ap (λ (r : Row). every (has rows) (next r)) (sym e) ∙ S .so-far j (omega arith)
 
+-- whether all of some rows are in the list
+pub all-listed : (rows xs : List Row) → (every (has rows) xs ≡ true) ↔ ((x : Row) → Mem x xs → Mem x rows)
+all-listed rows xs = every-law (has rows) (has-law rows) xs
+
 -- edge by edge ---------------------------------------------------------------------------------------------------------------------------
 
 module _ (T : Table) (rows : List Row) where
@@ -153,9 +157,6 @@ module _ (T : Table) (rows : List Row) where
 
   pub edges-begin : EdgesTo 0
   edges-begin = record { within = omega arith; so-far = λ j h. absurd (omega arith) }
-
-  all-listed : (xs : List Row) → (every (has rows) xs ≡ true) ↔ ((x : Row) → Mem x xs → Mem x rows)
-  all-listed xs = every-law (has rows) (has-law rows) xs
 
   module _ (k : ℕ) (S : EdgesTo k) where
     pub edges-on : k < length (T .edges) → NextListed (edge-rows (T .bounds) (edge T k)) rows 0 → EdgesTo (k + 1)
@@ -172,16 +173,16 @@ module _ (T : Table) (rows : List Row) where
       where
         out : (r : Row) → every (has rows) (edge-rows (T .bounds) (edge T k) r) ≡ false → every (has rows) (by-edges T r) ≡ false
         out r f =
-            fails (every (has rows) (by-edges T r)) (all-listed (by-edges T r)) (λ inside.
-            refutes (every (has rows) (edge-rows (T .bounds) (edge T k) r)) (all-listed (edge-rows (T .bounds) (edge T k) r)) f
+            fails (every (has rows) (by-edges T r)) (all-listed rows (by-edges T r)) (λ inside.
+            refutes (every (has rows) (edge-rows (T .bounds) (edge T k) r)) (all-listed rows (edge-rows (T .bounds) (edge T k) r)) f
             (λ x m. inside x (gather-in (λ (e : Edge). edge-rows (T .bounds) e r) (getD-in (T .edges) k blank l) m)))
 
     pub edges-all : length (T .edges) ≤ k → NextListed (by-edges T) rows 0
     edges-all l r m =
-        all-listed (by-edges T r) .1 (λ x h.
+        all-listed rows (by-edges T r) .1 (λ x h.
         let (e, a, b) = gather-out (λ (e : Edge). edge-rows (T .bounds) e r) (T .edges) h in
         let (j, i, q) = in-getD blank a in
-        all-listed (edge-rows (T .bounds) (edge T j) r) .0 (S .so-far j (omega arith) r m) x (rw q b))
+        all-listed rows (edge-rows (T .bounds) (edge T j) r) .0 (S .so-far j (omega arith) r m) x (rw q b))
 
 -- the edge that the code reads is the table's
 module _ (table : List ℕ) (head : Head) (D : Describes table head) (k : ℕ) (l : k < head .edges) (e : edge-code.Edge)

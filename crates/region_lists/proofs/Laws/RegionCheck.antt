@@ -1,5 +1,7 @@
 -- The check of a region list, way out by way out: each is what the definitions permit. Assumes nothing.
 use Prim.Native.Nat.{ℕ, zero, suc, _+_, _*_, _≤_, _<_}
+use Rattle.region_lists.proofs.Laws.NextRows.{all-listed}
+use Rattle.regions.proofs.Laws.Values.{row-region}
 use native.Mathlib.Omega.{arith}
 use mathlib.Core.Path.{_≡_, refl, sym, ap, _∙_}
 use mathlib.Core.Bool.{Bool, true, false}
@@ -28,7 +30,6 @@ use Rattle.calls.specs.RegionFile.{row-record, region-file, rows-read, rows-of,
 use Rattle.region_lists.specs.Listed.{listed-row, listed-rows, Listed}
 use Rattle.region_lists.specs.RegionList.{Told, passed, by-edges, NextListed}
 use Rattle.calls.proofs.Laws.Rows.{rows-read-law}
-use Rattle.rows.proofs.Laws.RowRecords.{row-back}
 use Rattle.region_lists.proofs.Laws.Listed.{listed-length, listed-in}
 use Rattle.region_lists.proofs.Laws.ListRecords.{was-good, Rows-there, all-there}
 use Rattle.region_lists.proofs.Laws.ListOrder.{passed-at}
@@ -62,9 +63,6 @@ unfolding next-rows
 leading-next T r x m = Memᴰ·append-right (wait-rows (T .bounds) r) m
 
 module _ (T : Table) (rows : List Row) where
-  all-listed : (xs : List Row) → (every (has rows) xs ≡ true) ↔ ((x : Row) → Mem x xs → Mem x rows)
-  all-listed xs = every-law (has rows) (has-law rows) xs
-
   lacks-one : (next : Row → List Row) → ((r x : Row) → Mem x (next r) → Mem x (next-rows T r)) → (place : ℕ) → (place ≡ 0 → ⊥)
       → NextListed next rows place → Mem place (lacking T rows 1 rows)
   lacks-one next part zero h l = absurd (h refl)
@@ -78,7 +76,7 @@ module _ (T : Table) (rows : List Row) where
           r,
           λ d. getD-any rows i within d (first-row T),
           fails (full T rows r) (full-law T rows r) (λ all.
-              refutes (every (has rows) (next r)) (all-listed (next r)) (b (first-row T)) (λ x m. all x (part r x m))),
+              refutes (every (has rows) (next r)) (all-listed rows (next r)) (b (first-row T)) (λ x m. all x (part r x m))),
         ),
       )
 
@@ -87,8 +85,8 @@ module _ (T : Table) (rows : List Row) where
   lacks-none u v = nothing-lacking T rows (λ r m. full-law T rows r .1 (λ x k. go r m x (List·Memᴰ·append-cases (wait-rows (T .bounds) r) k)))
     where
       go : (r : Row) → Mem r rows → (x : Row) → Mem x (wait-rows (T .bounds) r) ⊎ Mem x (by-edges T r) → Mem x rows
-      go r m x (inl k) = all-listed (wait-rows (T .bounds) r) .0 (u r m) x k
-      go r m x (inr k) = all-listed (by-edges T r) .0 (v r m) x k
+      go r m x (inl k) = all-listed rows (wait-rows (T .bounds) r) .0 (u r m) x k
+      go r m x (inr k) = all-listed rows (by-edges T r) .0 (v r m) x k
 
 permits-place : (n : ℕ) (places : List ℕ) (place : ℕ) → Mem place places → Permits (concluded n places) (refused 17 place)
 permits-place n [] place m = absurd (List·Memᴰ·not-nil m)
@@ -167,7 +165,7 @@ module _ (table list : List ℕ) (head : Head) (count : ℕ) (D : Describes tabl
           initial-row : row-of (head .clocks .count) initial ≡ first-row T
           initial-row =
               ap (row-of (head .clocks .count)) (i table D)
-              ∙ row-back (head .clocks .count) (first-row T) (length-replicate (clocks T) 0 ∙ sym (D .count)) (length-replicate (clocks T) 0 ∙ sym (D .count))
+              ∙ row-region (head .clocks .count) (first-row T) (length-replicate (clocks T) 0 ∙ sym (D .count)) (length-replicate (clocks T) 0 ∙ sym (D .count))
 
           starts : (t : Bool) → b ≡ t → has rows (first-row T) ≡ t
           starts t e = ap (has rows) (sym initial-row) ∙ sym found ∙ e

@@ -1,5 +1,6 @@
 -- A deterministic edge leads from a row to the row that the definitions compute, and to no other. Assumes nothing.
 use Prim.Native.Nat.{ℕ, _+_}
+use Rattle.automata.proofs.Laws.Ordered.{below-itself}
 use native.Mathlib.Omega.{arith}
 use mathlib.Core.Path.{_≡_, refl, sym, ap, _∙_}
 use mathlib.Core.Bool.{Bool, true, false}
@@ -21,16 +22,6 @@ use Rattle.regions.proofs.Laws.Landing.{landing, lands-somewhere, lands
 
 -- lists of one row, and of none -------------------------------------------------------------------------------------------------------
 
-before-self : (xs : List ℕ) → Before xs xs → ⊥
-before-self [] b = b
-before-self (x ∷ xs) (inl h) = omega arith
-before-self (x ∷ xs) (inr h) = before-self xs (h .1)
-
-below-self : (r : Row) → Below r r → ⊥
-below-self r (inl h) = omega arith
-below-self r (inr (e, inl b)) = before-self (r .intervals) b
-below-self r (inr (e, inr b)) = before-self (r .ranks) (b .1)
-
 only : (rows : List Row) (r : Row) → Ascends rows → Mem r rows → ((s : Row) → Mem s rows → s ≡ r) → rows ≡ r ∷ []
 only [] r a m f = absurd (List·Memᴰ·not-nil m)
 only (s ∷ []) r a m f = ap (λ (x : Row). x ∷ []) (f s (List·Memᴰ·head refl))
@@ -38,7 +29,7 @@ only (s ∷ (t ∷ rows)) r a m f =
     let p : s ≡ r = f s (List·Memᴰ·head refl) in
     let q : t ≡ r = f t (List·Memᴰ·tail (List·Memᴰ·head refl)) in
     let b : Below s t = a .0 in
-    absurd (below-self r (rw (p, q) at b))
+    absurd (below-itself r (rw (p, q) at b))
 
 no-rows : (rows : List Row) → ((s : Row) → Mem s rows → ⊥) → rows ≡ []
 no-rows [] f = refl

@@ -1,5 +1,6 @@
 -- From the code's arrays of four to the definitions' lists of n clocks, and from loops to tests over clocks. Assumes nothing.
 use Prim.Native.Nat.{ℕ, zero, suc, _+_, _-_, _≤_, _<_}
+use Rattle.automata.proofs.Laws.Tests.{and-false}
 use native.Mathlib.Decide.{decLt, ℕ-discrete}
 use native.Mathlib.Numerals.{add-one}
 use native.Mathlib.Omega.{arith}
@@ -82,10 +83,6 @@ module _ (f : ℕ → Bool) where
   allb-fails zero z h b = absurd (omega arith)
   allb-fails (suc n) z h b = go (ℕ-discrete z n) (allb-fails n z)
     where
-      and-false : (a : Bool) → a && false ≡ false
-      and-false true = refl
-      and-false false = refl
-
       go : Dec (z ≡ n) → (z < n → f z ≡ false → allb n f ≡ false) → allb n f && f n ≡ false
       go (yes e) before = rw (← e, b) (and-false (allb z f))
       go (no e) before = rw (before (omega arith) b)

@@ -1,5 +1,6 @@
 -- Row records as the code reads them: each way out of the reader is the definitions'. Assumes nothing.
 use Prim.Native.Nat.{ℕ, _+_, _*_, _-_, _≤_, _<_}
+use Rattle.regions.proofs.Laws.Values.{row-region}
 use native.Mathlib.Omega.{arith}
 use mathlib.Core.Path.{_≡_, refl, sym, ap, _∙_}
 use mathlib.Core.Bool.{Bool, true, false}
@@ -29,12 +30,8 @@ use Rattle.calls.proofs.Laws.RecordReads.{record-missing, record-there, record-
 
 -- a row and its region -------------------------------------------------------------------------------------------------------------
 
-pub row-back : (n : ℕ) (r : Row) → length (r .intervals) ≡ n → length (r .ranks) ≡ n → row-of n (region-of r) ≡ r
-row-back n r p q =
-    λ i. record { location = r .location; intervals = take-at (r .intervals) (replicate (4 - length (r .intervals)) 0) n p i; ranks = take-at (r .ranks) (replicate (4 - length (r .ranks)) 0) n q i }
-
 pub row-in-back : (n : ℕ) (b : List ℕ) → row-of n (region-of (row-in n b)) ≡ row-in n b
-row-in-back n b = row-back n (row-in n b) (length-each n _) (length-each n _)
+row-in-back n b = row-region n (row-in n b) (length-each n _) (length-each n _)
 
 -- the reader's ways out ------------------------------------------------------------------------------------------------------------
 
@@ -118,7 +115,7 @@ module _ (T : Table) (file : List ℕ) (p : ℕ) (r : RowRead) (h : ReadsRow T f
             → t ≡ good (row-of (clocks T) (r .region)) (drop (p + (3 + 2 * clocks T)) file)
         go (good row rest) e (_, q, f) =
             let R = row-read T place (drop p file) row rest e .0 in
-            let same-row : row ≡ row-of (clocks T) (r .region) = sym (ap (row-of (clocks T)) q ∙ row-back (clocks T) row (R .is-row .intervals-length) (R .is-row .ranks-length)) in
+            let same-row : row ≡ row-of (clocks T) (r .region) = sym (ap (row-of (clocks T)) q ∙ row-region (clocks T) row (R .is-row .intervals-length) (R .is-row .ranks-length)) in
             λ i. good (same-row i) (f i)
         go (bad number place) e (some, n, _) = absurd (omega (arith, n, fine))
 

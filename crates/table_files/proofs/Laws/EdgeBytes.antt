@@ -1,5 +1,6 @@
 -- Edge records: what is read is an edge within the limits and its bytes, and such an edge is read back. Assumes nothing.
 use Prim.Native.Nat.{ℕ, zero, suc, _+_, _*_, _-_, _%_, _≤_, _<_}
+use Rattle.automata.proofs.Laws.Lists.{length-from}
 use native.Mathlib.Decide.{decLt}
 use native.Mathlib.Omega.{arith}
 use mathlib.Core.Path.{_≡_, refl, sym, ap, _∙_}
@@ -24,7 +25,7 @@ use Rattle.table_files.specs.TableFile.{guard, guard-in-range, Fields, f
 use Rattle.table_files.specs.TableBytes.{guard-bytes, offset-bytes, action-bytes, update-bytes, edge-bytes, Offset, UpdateFields, EdgeFields}
 use Rattle.table_files.proofs.Laws.Bytes.{bytes-append, bytes-before, bytes-after, gather-bytes, bytes-next, two-next, two-small}
 use Rattle.table_files.proofs.Laws.Reading.{same-read, parts, tested, took, took-record, goes, passes, bytes-back, record-back}
-use Rattle.table_files.proofs.Laws.Tables.{length-from, ActionIn, EdgeIn}
+use Rattle.table_files.proofs.Laws.Tables.{ActionIn, EdgeIn}
 
 -- parts of one width, one after the other ------------------------------------------------------------------------------------
 

@@ -10,7 +10,7 @@ use lib.Dec.{leb, eqb}
 use borrow.Author.Tests.{leb-true, leb-false, le-leb, lt-leb, eq-eqb, ne-eqb}
 use Rattle.automata.specs.Clocks.{at}
 use Rattle.automata.specs.Checks.{same}
-use Rattle.automata.proofs.Laws.Tests.{Says, leb-law, fails, says}
+use Rattle.automata.proofs.Laws.Tests.{Says, leb-law, fails, says, and-false}
 
 -- two tests of orders that say the same
 pub leb-same : (a b c d : ℕ) → (a ≤ b → c ≤ d) → (c ≤ d → a ≤ b) → leb a b ≡ leb c d
@@ -44,10 +44,6 @@ module _ (mark b : List ℕ) (m : length mark ≡ 2) where
       go : (b : List ℕ) → length b < 2 → same mark (take 2 b) ≡ false
       go [] h = ap (λ (l : List ℕ). same l []) (two-of mark m)
       go (x ∷ []) h = ap (λ (l : List ℕ). same l (x ∷ [])) (two-of mark m) ∙ and-false (eqb (at mark 0) x)
-        where
-          and-false : (t : mathlib.Core.Bool.Bool) → (t && false) ≡ false
-          and-false true = refl
-          and-false false = refl
       go (x ∷ (y ∷ rest)) h = absurd (omega arith)
 
   marks : 2 ≤ length b → same mark (take 2 b) ≡ (eqb (at mark 0) (at b 0) && (eqb (at mark 1) (at b 1) && true))

@@ -14,7 +14,7 @@ use Rattle.automata.specs.Edge.{Guard, Action, keep, constant, clock, Edge, idl
 use Rattle.automata.specs.Automaton.{Table, clocks, edge, blank, final, Admitted}
 use Rattle.automata.specs.Closed.{Mem}
 use Rattle.automata.specs.Rows.{gather}
-use Rattle.automata.proofs.Laws.Tests.{Says, eqb-law, leb-law, and-law, allb-law}
+use Rattle.automata.proofs.Laws.Tests.{Says, eqb-law, leb-law, and-law, allb-law, same-test}
 use Rattle.automata.proofs.Laws.Members.{getD-in, in-getD}
 use Rattle.automata.proofs.Laws.Checks.{every-law}
 use Rattle.table_files.specs.Bytes.{AreBytes, TA, LO, two, two-bytes}
@@ -134,11 +134,6 @@ module _ (T : Table) (file : List ℕ) (k : ℕ) (O : TableOf T file k) where
       ext-getD false (map is-final flags′) (T .finals) (length-map flags′ is-final ∙ O .flags-length ∙ sym (O .limits .finals-length)) (λ l h.
       List·getD-map is-final flags′ l 0
       ∙ same-test (is-final (at flags′ l)) (final T l) (eqb-law (at flags′ l % 2) 1) (O .flags-final l (omega (arith, length-map flags′ is-final, O .flags-length))))
-    where
-      same-test : {P : Type 0} (a b : Bool) → Says a P → Says b P → a ≡ b
-      same-test true b s t = sym (t .1 (s .0 refl))
-      same-test false true s t = s .1 (t .0 refl)
-      same-test false false s t = refl
 
   table-back : table-file (table-bytes flags′ T) ≡ good T []
   unfolding table-file end

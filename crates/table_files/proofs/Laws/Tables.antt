@@ -1,5 +1,6 @@
 -- What is known of a table that was read. Assumes nothing.
 use Prim.Native.Nat.{ℕ, zero, suc, _+_, _≤_, _<_}
+use Rattle.automata.proofs.Laws.Lists.{length-from}
 use native.Mathlib.Omega.{arith}
 use mathlib.Core.Path.{_≡_, refl, sym, ap, _∙_}
 use mathlib.Core.Bool.{Bool, true}
@@ -55,10 +56,6 @@ header-in f h left e =
     })
 
 -- edges ----------------------------------------------------------------------------------------------------------------------
-
-pub length-from : (a n : ℕ) → length (from a n) ≡ n
-length-from a zero = refl
-length-from a (suc n) = ap suc (length-from (a + 1) n)
 
 guard-clock : (n : ℕ) (g : Guard) → guard-in-range n g ≡ true → g .clock < n
 guard-clock n g h = and-law _ _ (and-law _ _ (ltb-law (g .clock) n) (leb-law (g .comparison) 4)) (leb-law (g .constant) 127) .0 h .0 .0

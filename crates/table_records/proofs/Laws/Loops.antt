@@ -12,7 +12,7 @@ use Rattle.automata.specs.Clocks.{allb}
 use Rattle.automata.specs.Closed.{Mem}
 use Rattle.automata.specs.Rows.{from}
 use Rattle.automata.specs.Checks.{every}
-use Rattle.automata.proofs.Laws.Tests.{Says, says, allb-law}
+use Rattle.automata.proofs.Laws.Tests.{Says, says, allb-law, same-test}
 use Rattle.automata.proofs.Laws.Checks.{every-law}
 use Rattle.automata.proofs.Laws.Members.{getD-in, in-getD, from-in, from-out}
 use Rattle.table_files.proofs.Laws.Reading.{itself}
@@ -41,11 +41,6 @@ module _ {t : ℕ → Bool} {n k : ℕ} (p : Passed t n k) where
     one-fails e = p .rest ∙ rw (some-left, e)
 
 -- two tests that say the same
-pub same-test : {P : Type 0} (a b : Bool) → Says a P → Says b P → a ≡ b
-same-test true true p q = refl
-same-test true false p q = sym (q .1 (p .0 refl))
-same-test false true p q = p .1 (q .0 refl)
-same-test false false p q = refl
 
 -- two tests that agree below n
 pub every-same : (t u : ℕ → Bool) (n : ℕ) → ((i : ℕ) → i < n → t i ≡ u i) → every t (from 0 n) ≡ every u (from 0 n)
@@ -90,10 +85,6 @@ allb-every n t =
     ))
 
 -- arrays ---------------------------------------------------------------------------------------------------------------------
-
--- a list is as long as what is made of it
-pub length-mapped : (A B : Type 0) (f : A → B) (xs : List A) (n : ℕ) → length (map f xs) ≡ n → length xs ≡ n
-length-mapped A B f xs n e = sym (length-map xs f) ∙ e
 
 pub from-last : (a n : ℕ) → from a (suc n) ≡ from a n ++ ((a + n) ∷ [])
 from-last a zero = let e : a ≡ a + 0 = omega arith in λ i. e i ∷ []

@@ -3,12 +3,11 @@ use Prim.Native.Nat.{ℕ, zero, suc, _<_}
 use native.Mathlib.Omega.{arith}
 use mathlib.Core.Path.{_≡_, refl, sym, _∙_}
 use mathlib.Core.Logic.{_⊎_, inl, inr}
-use mathlib.Core.List.{List, [], _∷_, List·Memᴰ·not-nil}
+use mathlib.Core.List.{List, [], _∷_, List·Memᴰ·not-nil, List·Memᴰ·cases-cons}
 use lib.ListN.{length, getD}
 use Rattle.automata.specs.Row.{Row, Before, Below}
 use Rattle.automata.specs.Closed.{Mem, Ascends}
 use Rattle.automata.proofs.Laws.Members.{getD-in, Sorted}
-use Rattle.table_files.proofs.Laws.Reading.{cons-all}
 
 before-trans : (xs ys zs : List ℕ) → Before xs ys → Before ys zs → Before xs zs
 before-trans [] [] zs p q = absurd p
@@ -21,7 +20,7 @@ before-trans (x ∷ xs) (y ∷ ys) (z ∷ zs) (inl a) (inr (e, _)) = inl (omega 
 before-trans (x ∷ xs) (y ∷ ys) (z ∷ zs) (inr (e, _)) (inl b) = inl (omega arith)
 before-trans (x ∷ xs) (y ∷ ys) (z ∷ zs) (inr (d, a)) (inr (e, b)) = inr (d ∙ e, before-trans xs ys zs a b)
 
-before-itself : (xs : List ℕ) → Before xs xs → ⊥
+pub before-itself : (xs : List ℕ) → Before xs xs → ⊥
 before-itself [] p = p
 before-itself (x ∷ xs) (inl a) = omega arith
 before-itself (x ∷ xs) (inr (_, a)) = before-itself xs a
@@ -50,12 +49,20 @@ not-both-below r s a b = below-itself r (below-trans r s r a b)
 
 -- ascending lists --------------------------------------------------------------------------------------------------------------
 
+-- what is below a row that is below others is below these
+below-all : (r s : Row) (rows : List Row) → Below r s → ((t : Row) → Mem t rows → Below s t) → (t : Row) → Mem t (s ∷ rows) → Below r t
+below-all r s rows b f t m = go (List·Memᴰ·cases-cons m)
+  where
+    go : (t ≡ s) ⊎ Mem t rows → Below r t
+    go (inl e) = rw e b
+    go (inr k) = below-trans r s t b (f t k)
+
 pub ascends-sorted : (rows : List Row) → Ascends rows → Sorted Below rows
 ascends-sorted [] a = tt
 ascends-sorted (r ∷ []) a = (λ s m. absurd (List·Memᴰ·not-nil m), tt)
 ascends-sorted (r ∷ (s ∷ rows)) a =
     let later : Sorted Below (s ∷ rows) = ascends-sorted (s ∷ rows) (a .1) in
-    (cons-all (Below r) (a .0) (λ t m. below-trans r s t (a .0) (later .0 t m)), later)
+    (below-all r s rows (a .0) (later .0), later)
 
 pub sorted-at : (rows : List Row) → Sorted Below rows → (d : Row) (i j : ℕ) → i < j → j < length rows → Below (getD rows i d) (getD rows j d)
 sorted-at [] s d i j h l = absurd (omega arith)
