@@ -175,6 +175,38 @@ fn worst(bounds: &[u8]) -> Automaton {
     of_locations(1, bounds, edges)
 }
 
+/// The first 16 of those edges, each with other updates.
+fn altered(bounds: &[u8], alter: impl Fn(usize, &mut Update)) -> Automaton {
+    let mut automaton = worst(bounds);
+    automaton.edges.truncate(16);
+    for edge in &mut automaton.edges {
+        for (own, update) in edge.updates.iter_mut().enumerate() {
+            alter(own, update);
+        }
+    }
+    automaton
+}
+
+/// The last clock is kept, so that what an edge leads to differs from each row to the next.
+fn last_kept(bounds: &[u8]) -> Automaton {
+    altered(bounds, |own, update| {
+        if own + 1 == bounds.len() {
+            *update = Update::Keep;
+        }
+    })
+}
+
+/// No clock may go down, so that an edge reads all clocks and leads to many rows from each.
+fn none_down(bounds: &[u8]) -> Automaton {
+    altered(bounds, |own, update| {
+        *update = Update::Clock {
+            comparison: Comparison::AtLeast,
+            clock: own as u8,
+            offset: 0,
+        }
+    })
+}
+
 fn time_lists(repetitions: u32) {
     let effort = |calls| Effort { repetitions, calls };
     let automaton = typical();
@@ -188,6 +220,14 @@ fn time_lists(repetitions: u32) {
         let automaton = worst(bounds);
         let rows = all_rows(&automaton, 4_096).expect("the rows fit in a list");
         time_list("worst list", effort(1), &automaton, &rows);
+    }
+    let bounds = [2, 2, 1, 1];
+    for (name, automaton) in [
+        ("last clock kept", last_kept(&bounds)),
+        ("no clock goes down", none_down(&bounds)),
+    ] {
+        let rows = all_rows(&automaton, 4_096).expect("the rows fit in a list");
+        time_list(name, effort(1), &automaton, &rows);
     }
 }
 
