@@ -1,4 +1,4 @@
--- What an edge reads of a row, and the row that it was walked from last, for the check of region lists. Assumes nothing.
+-- What an edge reads of a row, a row that it was followed from before, and where the rows of a location start, for the check of region lists. Assumes nothing.
 use Prim.Native.Nat.{ℕ, _≤_, _<_}
 use mathlib.Core.Path.{_≡_}
 use mathlib.Core.Bool.{Bool, true, _&&_}
@@ -34,7 +34,7 @@ pub record Inside (c : List ℕ) (rows : List Row) (e : Edge) (r : Row) : Type 0
   pub guarded : guardsb r (e .guards) ≡ true
   pub inside : every (has rows) (edge-rows c e r) ≡ true
 
--- the same of the region that the edge was walked from last, if there is one
+-- the same of a region that the edge was followed from before, if there is one
 abbrev pub Kept : List ℕ → ℕ → List Row → Edge → Sought → Type 0
 Kept c n rows e s = s .found ≡ true → Inside c rows e (row-of n (s .region))
 
