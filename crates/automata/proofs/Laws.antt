@@ -30,6 +30,7 @@ pub mod Edges
 pub mod Rows
 pub mod Leads
 -- lists of rows
+pub mod Rankings
 pub mod Successors
 pub mod Checks
 -- tables

@@ -9,6 +9,7 @@ pub mod Automaton
 pub mod Run
 pub mod Closed
 pub mod Rows
+pub mod Rankings
 pub mod Successors
 pub mod Checks
 pub mod Meeting

@@ -9,7 +9,7 @@ use Rattle.automata.specs.Row.{Row, Before, Below}
 use Rattle.automata.specs.Closed.{Mem, Ascends}
 use Rattle.automata.proofs.Laws.Members.{getD-in, Sorted}
 
-before-trans : (xs ys zs : List ℕ) → Before xs ys → Before ys zs → Before xs zs
+pub before-trans : (xs ys zs : List ℕ) → Before xs ys → Before ys zs → Before xs zs
 before-trans [] [] zs p q = absurd p
 before-trans [] (y ∷ ys) [] p q = absurd q
 before-trans [] (y ∷ ys) (z ∷ zs) p q = tt

@@ -1,15 +1,19 @@
--- A row's ranks: which clocks have one, that none is missing, and that there are no more of them than clocks. Assumes nothing.
+-- A row's ranks: which clocks have one, that none is missing, and that there are no more of them than clocks with open intervals. Assumes nothing.
 use Prim.Native.Nat.{ℕ, zero, suc, _+_, _*_, _-_, _≤_, _<_, max, min}
 use native.Mathlib.Decide.{decLt, decLe, ℕ-discrete}
 use native.Mathlib.Omega.{arith}
-use mathlib.Core.Path.{_≡_, sym, ap, _∙_}
+use mathlib.Core.Path.{_≡_, refl, sym, ap, _∙_}
+use mathlib.Core.Bool.{Bool, true, false}
 use mathlib.Core.Logic.{_⊎_, inl, inr}
 use mathlib.Core.List.{List}
 use lib.ListN.{length}
-use Rattle.automata.specs.Clocks.{at, greatest}
+use Rattle.automata.specs.Clocks.{at, greatest, one-if}
 use Rattle.automata.specs.Row.{Row, Open, IsRow}
+use Rattle.automata.specs.Rows.{openb}
+use Rattle.automata.specs.Rankings.{open-clocks}
+use Rattle.automata.proofs.Laws.Tests.{never}
 use Rattle.automata.proofs.Laws.Lists.{at-greatest, greatest-at}
-use Rattle.automata.proofs.Laws.Clocks.{open-or-not}
+use Rattle.automata.proofs.Laws.Clocks.{openb-law, open-or-not}
 
 -- what a row asks of one clock's interval and rank
 pub record Clocked (c j k : ℕ) : Type 0 where
@@ -17,27 +21,55 @@ pub record Clocked (c j k : ℕ) : Type 0 where
   pub rank-open : Open c j → 0 < k
   pub rank-shut : (Open c j → ⊥) → k ≡ 0
 
--- n values that hold all of 1, .., m: take the last away, and those above it down by one
-fill : (n m : ℕ) (f : ℕ → ℕ) → ((k : ℕ) → 0 < k → k ≤ m → (w : ℕ) × (w < n) × (f w ≡ k)) → m ≤ n
-fill zero m f h = go (decLe m 0)
-  where
-    go : Dec (m ≤ 0) → m ≤ 0
-    go (yes l) = l
-    go (no l) = let (w, b, e) = h 1 (omega arith) (omega arith) in absurd (omega arith)
-fill (suc n) m f h = let i = fill n (m - 1) (λ w. max (min (f w) (f n)) (f w - 1)) next in omega arith
-  where
-    other : (k : ℕ) → 0 < k → k ≤ m → (k ≡ f n → ⊥) → (w : ℕ) × (w < n) × (f w ≡ k)
-    other k p l out =
-        let (w, b, e) = h k p l in
-        let q : w ≡ n → ⊥ = λ q. out (sym e ∙ ap f q) in
-        (w, omega arith, e)
+-- clocks with open intervals, for bounds c and intervals js ------------------------------------------------------------------------------
 
-    next : (k : ℕ) → 0 < k → k ≤ m - 1 → (w : ℕ) × (w < n) × (max (min (f w) (f n)) (f w - 1) ≡ k)
-    next k p l = go (decLt k (f n))
-      where
-        go : Dec (k < f n) → (w : ℕ) × (w < n) × (max (min (f w) (f n)) (f w - 1) ≡ k)
-        go (yes s) = let (w, b, e) = other k p (omega arith) (λ q. omega arith) in (w, b, omega arith)
-        go (no s) = let (w, b, e) = other (k + 1) (omega arith) (omega arith) (λ q. omega arith) in (w, b, omega arith)
+module _ (c js : List ℕ) where
+  abbrev inside : ℕ → Bool
+  inside z = openb (at c z) (at js z)
+
+  -- there are no more than clocks
+  pub open-clocks-le : (n : ℕ) → open-clocks c js n ≤ n
+  unfolding open-clocks
+  open-clocks-le zero = omega arith
+  open-clocks-le (suc n) = go (inside n) (open-clocks-le n)
+    where
+      go : (b : Bool) → open-clocks c js n ≤ n → open-clocks c js n + one-if b ≤ suc n
+      go true h = omega arith
+      go false h = omega arith
+
+  -- one of the first n of them has the value k
+  abbrev Holder : (ℕ → ℕ) → ℕ → ℕ → Type 0
+  Holder f n k = (w : ℕ) × (w < n) × (f w ≡ k) × (inside w ≡ true)
+
+  -- they hold all of 1, .., m: leave the last clock out, and where it is one of them take the values above its own down by one
+  fill : (n m : ℕ) (f : ℕ → ℕ) → ((k : ℕ) → 0 < k → k ≤ m → Holder f n k) → m ≤ open-clocks c js n
+  unfolding open-clocks
+  fill zero m f h = go (decLe m 0)
+    where
+      go : Dec (m ≤ 0) → m ≤ 0
+      go (yes l) = l
+      go (no l) = let (w, b, e, o) = h 1 (omega arith) (omega arith) in absurd (omega arith)
+  fill (suc n) m f h = go (inside n) refl (fill n)
+    where
+      other : (k : ℕ) → 0 < k → k ≤ m → (inside n ≡ true → k ≡ f n → ⊥) → Holder f n k
+      other k p l out =
+          let (w, b, e, o) = h k p l in
+          let q : w ≡ n → ⊥ = λ q. out (rw q at o) (sym e ∙ ap f q) in
+          (w, omega arith, e, o)
+
+      next : (k : ℕ) → 0 < k → k ≤ m - 1 → Holder (λ w. max (min (f w) (f n)) (f w - 1)) n k
+      next k p l = by (decLt k (f n))
+        where
+          by : Dec (k < f n) → Holder (λ w. max (min (f w) (f n)) (f w - 1)) n k
+          by (yes s) = let (w, b, e, o) = other k p (omega arith) (λ t q. omega arith) in (w, b, omega arith, o)
+          by (no s) = let (w, b, e, o) = other (k + 1) (omega arith) (omega arith) (λ t q. omega arith) in (w, b, omega arith, o)
+
+      go : (b : Bool) → inside n ≡ b → ((m : ℕ) (f : ℕ → ℕ) → ((k : ℕ) → 0 < k → k ≤ m → Holder f n k) → m ≤ open-clocks c js n)
+          → m ≤ open-clocks c js n + one-if b
+      go true e ih = let i = ih (m - 1) (λ w. max (min (f w) (f n)) (f w - 1)) next in omega arith
+      go false e ih = let i = ih m f (λ k p l. other k p l (λ t q. never (sym e ∙ t))) in omega arith
+
+-- a row's ranks -------------------------------------------------------------------------------------------------------------------------
 
 module _ (c : List ℕ) (r : Row) (row : IsRow c r) where
   pub ranked-open : (z : ℕ) → z < length c → 0 < at (r .ranks) z → Open (at c z) (at (r .intervals) z)
@@ -63,8 +95,20 @@ module _ (c : List ℕ) (r : Row) (row : IsRow c r) where
       go (yes e) t = (t .0, t .1, t .2 ∙ sym e)
       go (no n) t = let e : at (r .ranks) (t .0) ≡ greatest (r .ranks) = t .2 in row .dense (t .0) q (t .1) h (omega arith)
 
+  -- so there are no more of them than clocks with open intervals
+  pub open-ranks : greatest (r .ranks) ≤ open-clocks c (r .intervals) (length c)
+  open-ranks = fill c (r .intervals) (length c) (greatest (r .ranks)) (at (r .ranks)) held
+    where
+      held : (q : ℕ) → 0 < q → q ≤ greatest (r .ranks) → Holder c (r .intervals) (at (r .ranks)) (length c) q
+      held q p k =
+          let (z, h, e) = holder q p k in
+          (z, h, e, openb-law (at c z) (at (r .intervals) z) .1 (ranked-open z h (omega arith)))
+
+  pub rank-open-le : (z : ℕ) → at (r .ranks) z ≤ open-clocks c (r .intervals) (length c)
+  rank-open-le z = omega (arith, at-greatest (r .ranks) z, open-ranks)
+
   pub few-ranks : greatest (r .ranks) ≤ length c
-  few-ranks = fill (length c) (greatest (r .ranks)) (at (r .ranks)) holder
+  few-ranks = omega (arith, open-ranks, open-clocks-le c (r .intervals) (length c))
 
   pub rank-le : (z : ℕ) → at (r .ranks) z ≤ length c
   rank-le z = omega (arith, at-greatest (r .ranks) z, few-ranks)

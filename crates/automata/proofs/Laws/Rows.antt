@@ -58,15 +58,9 @@ module _ (c : List ℕ) (r : Row) where
         dense = λ z k h p q. t .1 z h .1 k q p;
       }
 
--- the list ----------------------------------------------------------------------------------------------------------------------------
+-- the ranks ---------------------------------------------------------------------------------------------------------------------------
 
-module _ (c : List ℕ) (l : ℕ) where
-  abbrev row : List ℕ → List ℕ → Row
-  row js ks = record { location = l; intervals = js; ranks = ks }
-
-  abbrev with-intervals : List ℕ → List Row
-  with-intervals js = map (row js) (rank-lists c js)
-
+module _ (c : List ℕ) where
   -- the clock's rank is among those that its interval can have
   rank-in : (r : Row) → IsRow c r → (z : ℕ) → z < length c
       → Mem (at (r .ranks) z) (cond (openb (at c z) (at (r .intervals) z)) (from 1 (length c)) (0 ∷ []))
@@ -78,6 +72,25 @@ module _ (c : List ℕ) (l : ℕ) where
           from-in 1 (length c) (at (r .ranks) z) (omega arith) (omega (arith, rank-le c r i z))
       go false s = List·Memᴰ·head (i .rank-shut z h (λ o. never (s .1 o)))
 
+  pub rank-lists-in : (r : Row) → IsRow c r → Mem (r .ranks) (rank-lists c (r .intervals))
+  rank-lists-in r i = choices-in _ (length c) (r .ranks) (i .ranks-length) (rank-in r i)
+
+  pub rank-lists-sorted : (js : List ℕ) → Sorted Before (rank-lists c js)
+  rank-lists-sorted js = sorted-choices _ (length c) (λ z. go (openb (at c z) (at js z)))
+    where
+      go : (b : Bool) → Sorted _<_ (cond b (from 1 (length c)) (0 ∷ []))
+      go true = sorted-from 1 (length c)
+      go false = (λ y m. absurd (List·Memᴰ·not-nil m), tt)
+
+-- the list ----------------------------------------------------------------------------------------------------------------------------
+
+module _ (c : List ℕ) (l : ℕ) where
+  abbrev row : List ℕ → List ℕ → Row
+  row js ks = record { location = l; intervals = js; ranks = ks }
+
+  abbrev with-intervals : List ℕ → List Row
+  with-intervals js = map (row js) (rank-lists c js)
+
   pub rows-at-in : (r : Row) → r .location ≡ l → IsRow c r → Mem r (rows-at c l)
   unfolding rows-at
   rows-at-in r e i =
@@ -85,7 +98,7 @@ module _ (c : List ℕ) (l : ℕ) where
       (gather-in (λ (js : List ℕ). map (λ (ks : List ℕ). record { location = r .location; intervals = js; ranks = ks }) (rank-lists c js))
       (choices-in (λ (z : ℕ). from 0 (2 * at c z + 2)) (length c) (r .intervals) (i .intervals-length) (λ z h. from-in 0 (2 * at c z + 2) (at (r .intervals) z) (omega arith) (omega (arith, i .in-range z h))))
       (map-in (λ (ks : List ℕ). record { location = r .location; intervals = r .intervals; ranks = ks })
-      (choices-in _ (length c) (r .ranks) (i .ranks-length) (rank-in r i))))
+      (rank-lists-in c r i)))
       (isrowb-law c r .1 i))
 
   pub rows-at-out : (r : Row) → Mem r (rows-at c l) → (r .location ≡ l) × IsRow c r
@@ -102,14 +115,8 @@ module _ (c : List ℕ) (l : ℕ) where
       sorted-select Below (isrowb c) (gather with-intervals (interval-lists c))
       (sorted-gather Before Below with-intervals ranked apart (interval-lists c) (sorted-choices (λ (z : ℕ). from 0 (2 * at c z + 2)) (length c) (λ z. sorted-from 0 (2 * at c z + 2))))
     where
-      ranks-sorted : (b : Bool) → Sorted _<_ (cond b (from 1 (length c)) (0 ∷ []))
-      ranks-sorted true = sorted-from 1 (length c)
-      ranks-sorted false = (λ y m. absurd (List·Memᴰ·not-nil m), tt)
-
       ranked : (js : List ℕ) → Sorted Below (with-intervals js)
-      ranked js =
-          sorted-map Before Below (row js) (λ ks ks′ b. inr (refl, inr (refl, b))) (rank-lists c js)
-          (sorted-choices _ (length c) (λ z. ranks-sorted (openb (at c z) (at js z))))
+      ranked js = sorted-map Before Below (row js) (λ ks ks′ b. inr (refl, inr (refl, b))) (rank-lists c js) (rank-lists-sorted c js)
 
       apart : (js js′ : List ℕ) → Before js js′ → (r s : Row) → Mem r (with-intervals js) → Mem s (with-intervals js′) → Below r s
       apart js js′ b r s m k =
