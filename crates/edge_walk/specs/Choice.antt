@@ -11,9 +11,11 @@ use lib.Dec.{leb, ltb}
 use Rattle.automata.specs.Clocks.{at}
 use Rattle.automata.specs.Row.{Row, IsRow, Before, Below}
 use Rattle.automata.specs.Rows.{openb}
+use Rattle.automata.specs.Rankings.{open-clocks}
 use Rattle.regions.specs.Values.{Few, bounds-of, row-of, region-of, sought}
 use Rattle.regions.specs.Order.{numbers}
 use Rattle.regions.specs.Placing.{still, placed-at}
+use Rattle.regions.specs.declared.region.Clocks.{Clocks}
 use Rattle.regions.specs.declared.region.Region.{Region}
 use Rattle.regions.specs.declared.region.Sought.{Sought}
 use Rattle.edge_walk.specs.declared.choice.Search.{Search}
@@ -71,9 +73,11 @@ pub record Underway (s : Search) (part : Region) (i : ℕ) (tight : Bool) : Type
 abbrev pub Goal : Search → Region → ℕ → Bool → Row → Type 0
 Goal s part i tight = Wanted (Candidate s) (numbers-of s (s .floor)) (numbers-of s part) i tight
 
--- the greatest rank in interval j, for n clocks and the bound c
-abbrev pub rank-limit : ℕ → ℕ → ℕ → ℕ
-rank-limit n c j = cond (openb c j) n 0
+-- the greatest rank of clock z: none is missing, so in an open interval it is no more than there are clocks with open intervals
+abbrev pub rank-limit : Clocks → Region → ℕ → ℕ
+rank-limit k part z =
+    cond (openb (at (k .bounds) z) (at (part .intervals) z))
+    (open-clocks (bounds-of k) (row-of (k .count) part .intervals) (k .count)) 0
 
 -- the ranks chosen so far have no positions
 unfoldable pub stuckb : Search → Region → ℕ → Bool

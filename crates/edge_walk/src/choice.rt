@@ -6,7 +6,6 @@ use regions::region::Region;
 use regions::region::is_open;
 ghost use mathlib.Core.Path.{_≡_};
 ghost use Prim.Native.Nat.{_+_, _*_, _≤_, _<_};
-ghost use Rattle.automata.specs.Clocks.{at};
 ghost use Rattle.edge_walk.specs.Choice.{rank-limit, stuckb, Ready, Skips, Ends};
 
 // What the walk goes by: the clocks, their moves, and the region above which it seeks.
@@ -17,15 +16,16 @@ pub struct Search {
 }
 
 impl Search {
-    // The greatest rank that clock z of the part may have: 0 where its interval is not open, else as many as there are clocks.
+    // The greatest rank that clock z of the part may have, once all its intervals are chosen: 0 where its interval is not open, else as many as
+    // there are clocks with open intervals, since no rank is missing.
     fn last_rank(self, part: Region, z: usize) -> u8
         requires { ⌜ Ready self ⌝ }
         requires { ⌜ z < self .clocks .count ⌝ }
-        ensures { λ r. ⌜ r ≡ rank-limit (self .clocks .count) (at (self .clocks .bounds) z) (at (part .intervals) z) ⌝ }
+        ensures { λ r. ⌜ r ≡ rank-limit (self .clocks) part z ⌝ }
     {
         let clocks = self.clocks;
         if is_open(clocks.bounds[z], part.intervals[z]) {
-            return clocks.count;
+            return part.open_clocks(clocks);
         }
         0
     }
@@ -61,10 +61,12 @@ impl Search {
         if 0 < from {
             return from;
         }
-        if self.last_rank(part, i - 1 - n) == 0 {
-            return 0;
+        let clocks = self.clocks;
+        let z = i - 1 - n;
+        if is_open(clocks.bounds[z], part.intervals[z]) {
+            return 1;
         }
-        1
+        0
     }
 
     // Whether the ranks chosen so far have no positions, so that nothing can come of the part: seen before the next rank is chosen.

@@ -6,6 +6,7 @@ ghost use Prim.Native.Nat.{_≤_, _<_};
 ghost use lib.Dec.{eqb, ltb};
 ghost use Rattle.automata.specs.Clocks.{allb};
 ghost use Rattle.automata.specs.Rows.{openb, heldb, clockb, isrowb};
+ghost use Rattle.automata.specs.Rankings.{open-clocks};
 ghost use Rattle.regions.specs.Values.{Few, bounds-of, row-of, sought};
 
 // The clocks and their bounds: one for each of the first `count`.
@@ -129,5 +130,22 @@ impl Region {
             z += 1;
         }
         true
+    }
+
+    // How many clocks have open intervals: the greatest rank that a clock of such a region can have.
+    pub fn open_clocks(self, clocks: Clocks) -> u8
+        requires { ⌜ Few clocks ⌝ }
+        ensures { λ r. ⌜ r ≡ open-clocks (bounds-of clocks) (row-of (clocks .count) self .intervals) (clocks .count) ⌝ }
+    {
+        let n = clocks.count as usize;
+        let mut total = 0;
+        let mut z = 0;
+        while z < n {
+            if is_open(clocks.bounds[z], self.intervals[z]) {
+                total += 1;
+            }
+            z += 1;
+        }
+        total
     }
 }

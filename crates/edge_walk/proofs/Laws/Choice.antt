@@ -7,10 +7,12 @@ use mathlib.Core.Logic.{_⊎_, inl, inr}
 use mathlib.Core.List.{List}
 use lib.ListN.{length, getD, take}
 use lib.Dec.{ltb}
+use lib.Seq.{ext-getD}
 use borrow.Author.Tests.{lt-ltb, le-leb}
 use Rattle.automata.specs.Clocks.{at, allb}
 use Rattle.automata.specs.Row.{Row, Open, IsRow}
 use Rattle.automata.specs.Rows.{openb}
+use Rattle.automata.specs.Rankings.{open-clocks}
 use Rattle.automata.specs.Successors.{least}
 use Rattle.regions.specs.Values.{bounds-of, row-of}
 use Rattle.regions.specs.Order.{numbers}
@@ -22,7 +24,7 @@ use Rattle.regions.specs.declared.region.Region.{Region}
 use Rattle.edge_walk.specs.declared.choice.Search.{Search}
 use Rattle.automata.proofs.Laws.Tests.{Says, never, true-or-false, refutes, ltb-law, not-law, and-law, and-false}
 use Rattle.automata.proofs.Laws.Clocks.{openb-law}
-use Rattle.automata.proofs.Laws.Ranks.{rank-le}
+use Rattle.automata.proofs.Laws.Ranks.{open-clocks-le, rank-open-le}
 use Rattle.regions.proofs.Laws.Values.{at-take, length-first}
 use Rattle.automata.proofs.Laws.Leads.{Least, least-is}
 use Rattle.regions.proofs.Laws.Placing.{placed-permits, placed-less}
@@ -129,40 +131,46 @@ module _ (s : Search) (ready : Ready s) (four : length (s .clocks .bounds) ≡ 4
     abbrev z : ℕ
     z = i - 1 - n
 
-    abbrev limit : ℕ
-    limit = rank-limit n (at (s .clocks .bounds) z) (at (part .intervals) z)
-
     abbrev inside : Bool
     inside = openb (at (s .clocks .bounds) z) (at (part .intervals) z)
+
+    -- the clocks with open intervals
+    abbrev most : ℕ
+    most = open-clocks c (take n (part .intervals)) n
 
     inside-law : (x : Row) → Candidate s x → Agree i (numbers x) (numbers-of s part) → Says inside (Open (at c z) (at (x .intervals) z))
     inside-law x q a =
         rw (same-interval x q a z (omega arith) (omega arith), at-take n (s .clocks .bounds) z (omega arith))
         (openb-law (at (s .clocks .bounds) z) (at (part .intervals) z))
 
-    limited : (x : Row) → Candidate s x → Agree i (numbers x) (numbers-of s part) → (b : Bool) → inside ≡ b → at (x .ranks) z ≤ cond b n 0
-    limited x q a true e = omega (arith, rank-le c x (q .is-row) z, clocks-count)
+    -- all intervals are chosen
+    same-intervals : (x : Row) → Candidate s x → Agree i (numbers x) (numbers-of s part) → x .intervals ≡ take n (part .intervals)
+    same-intervals x q a =
+        ext-getD 0 (x .intervals) (take n (part .intervals)) (its-length x q ∙ sym part-length)
+        (λ w l. let k : w < n = omega (arith, its-length x q) in same-interval x q a w k (omega arith) ∙ sym (at-take n (part .intervals) w k))
+
+    limited : (x : Row) → Candidate s x → Agree i (numbers x) (numbers-of s part) → (b : Bool) → inside ≡ b → at (x .ranks) z ≤ cond b most 0
+    limited x q a true e = rw (same-intervals x q a, clocks-count) at (rank-open-le c x (q .is-row) z)
     limited x q a false e =
         let shut : at (x .ranks) z ≡ 0 = q .is-row .rank-shut z (omega (arith, clocks-count)) (refutes inside (inside-law x q a) e) in
         omega arith
 
-    pub rank-ends : (k : ℕ) → k ≡ limit → Ends s part i k
+    pub rank-ends : (k : ℕ) → k ≡ rank-limit (s .clocks) part z → Ends s part i k
     rank-ends k e = record { low = omega (arith, small); low-rank = λ l. small; all = λ x q a. rw e (rw (at-rank n x (its-length x q) i h) (limited x q a inside refl)) }
       where
-        few : (b : Bool) → cond b n 0 ≤ 4
-        few true = ready .few .few
+        few : (b : Bool) → cond b most 0 ≤ 4
+        few true = omega (arith, open-clocks-le c (take n (part .intervals)) n, ready .few .few)
         few false = omega arith
 
         small : k ≤ 4
         small = rw e (few inside)
 
-    pub rank-skips : (k j : ℕ) → k ≡ limit → (k ≡ 0 → ⊥) → j ≡ 0 → Skips s part i j 1
-    rank-skips k j e d f = rw f (record { on = omega arith; over = λ x q a l. go x q a inside refl })
+    pub rank-skips : (j : ℕ) → inside ≡ true → j ≡ 0 → Skips s part i j 1
+    rank-skips j e f = rw f (record { on = omega arith; over = λ x q a l. ranked x q a })
       where
-        go : (x : Row) → Candidate s x → Agree i (numbers x) (numbers-of s part) → (b : Bool) → inside ≡ b → 1 ≤ at (numbers x) i
-        go x q a true g =
-            omega (arith, at-rank n x (its-length x q) i h, q .is-row .rank-open z (omega (arith, clocks-count)) (inside-law x q a .0 g))
-        go x q a false g = absurd (d (rw (e, g)))
+        ranked : (x : Row) → Candidate s x → Agree i (numbers x) (numbers-of s part) → 1 ≤ at (numbers x) i
+        ranked x q a =
+            omega (arith, at-rank n x (its-length x q) i h, q .is-row .rank-open z (omega (arith, clocks-count)) (inside-law x q a .0 e))
 
 -- the code's tests
 module _ (s : Search) (part : Region) (i : ℕ) where

@@ -1,14 +1,17 @@
--- The test of rows as the code makes it: rank by rank and clock by clock, in the arrays of the clocks k and the region v. Assumes nothing.
+-- The test of rows as the code makes it: rank by rank and clock by clock, in the arrays of the clocks k and the region v; the count of clocks with
+-- open intervals. Assumes nothing.
 use Prim.Native.Nat.{ℕ, _+_, _*_, _≤_, _<_}
+use native.Mathlib.Numerals.{add-one}
 use native.Mathlib.Omega.{arith}
 use mathlib.Core.Path.{_≡_, refl, sym, _∙_}
 use mathlib.Core.Bool.{Bool, true, false, cond, not, _&&_, _||_}
 use lib.ListN.{length}
 use lib.Dec.{eqb, leb, ltb}
 use borrow.Author.Tests.{eq-eqb, lt-ltb, le-ltb, lt-leb, le-leb}
-use Rattle.automata.specs.Clocks.{at, allb, someb}
+use Rattle.automata.specs.Clocks.{at, allb, someb, one-if}
 use Rattle.automata.specs.Row.{Row}
 use Rattle.automata.specs.Rows.{openb, heldb, clockb, isrowb}
+use Rattle.automata.specs.Rankings.{open-clocks}
 use Rattle.regions.specs.Values.{bounds-of, row-of}
 use Rattle.regions.specs.declared.region.Clocks.{Clocks}
 use Rattle.regions.specs.declared.region.Region.{Region}
@@ -65,6 +68,12 @@ module _ (k : Clocks) (v : Region) where
       -- the ranks below it decide
       pub clock-ranked : rankedb ≡ true → allb (at (v .ranks) z) (heldb (bounds-of k) row) ≡ clockb (bounds-of k) row z
       clock-ranked e = rw (clock-is, le-leb (at (v .intervals) z) (2 * at (k .bounds) z + 1) l, e)
+
+    -- clocks with open intervals: the next clock counts where the test passes
+    pub open-more : (t u : ℕ) (b : Bool) → t ≡ open-clocks (bounds-of k) (row .intervals) z → b ≡ openb (at (k .bounds) z) (at (v .intervals) z)
+        → u ≡ t + one-if b → u ≡ open-clocks (bounds-of k) (row .intervals) (z + 1)
+    unfolding open-clocks
+    open-more t u b e f g = rw (add-one, at-take (k .count) (k .bounds) z h, at-take (k .count) (v .intervals) z h, ← e, ← f) g
 
   -- the row: its clocks decide
   pub row-is : k .count ≤ 4 → length (k .bounds) ≡ 4 → length (v .intervals) ≡ 4 → length (v .ranks) ≡ 4

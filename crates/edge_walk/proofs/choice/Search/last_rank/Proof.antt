@@ -1,9 +1,9 @@
-use mathlib.Core.Path.{sym, _∙_}
 use borrow.Author.Needs.{needs}
 use Rattle.edge_walk.proofs.choice.Search.last_rank.Statement.{statement}
 use Rattle.edge_walk.proofs.choice.Search.last_rank.Tie as tie
 use Rattle.edge_walk.proofs.choice.Search.last_rank.Reads as reads
 use Rattle.edge_walk.proofs.choice.Search.last_rank.Lts as lts
+use Rattle.regions.proofs.region.Region.open_clocks.Reads as open-clocks-reads
 use Rattle.regions.proofs.region.is_open.Reads as is-open-reads
 
 -- src/choice.rt:27:20
@@ -27,8 +27,12 @@ is-open-requires : tie.Need-is-open-requires
 is-open-requires c κs = c .before .before .before .pre .0 .few .low _
 
 -- src/choice.rt:28:13
+open-clocks-requires : tie.Need-open-clocks-requires
+open-clocks-requires c κs = search needs
+
+-- src/choice.rt:28:13
 returns : tie.Need-returns
-returns c = rw (← c .before .is-open .ensures, c .if1 .taken)
+returns c = rw (← c .before .before .is-open .ensures, c .before .if1 .taken) (c .open-clocks .ensures)
 
 -- src/choice.rt:21:5
 returns-2 : tie.Need-returns-2
@@ -43,5 +47,6 @@ last-rank-spec =
     mul-is-open-2
     element-copy-out-is-open-2
     is-open-requires
+    open-clocks-requires
     returns
     returns-2)
