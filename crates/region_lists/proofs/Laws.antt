@@ -8,6 +8,7 @@ pub mod SameNext
 pub mod Agreeing
 pub mod NextRows
 pub mod Stretch
+pub mod Ranked
 pub mod Kept
 pub mod RegionCheck
 -- the calls together

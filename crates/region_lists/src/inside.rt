@@ -14,6 +14,7 @@ ghost use Rattle.edge_walk.specs.Visit.{AllPass};
 ghost use Rattle.region_lists.specs.Listed.{listed-rows, Listed};
 use crate::listed::Found;
 use crate::listed::find;
+use crate::ranked::has_all_ranked;
 use edge_walk::choice::Search;
 use regions::edge::Edge;
 use regions::region::Clocks;
@@ -57,8 +58,12 @@ fn all_inside(list: &[u8], count: usize, s: Search, part: Region, i: usize, hint
     if i == 1 + 2 * n {
         return arrives_inside(list, count, s, part, hint);
     }
+    let ranked = has_all_ranked(list, s.clocks, count, part, i, hint);
+    if ranked.listed {
+        return ranked;
+    }
     let last = s.last_choice(part, i);
-    let mut at = hint;
+    let mut at = ranked.at;
     let mut choice = s.next_choice(part, i, 0);
     while choice <= last {
         let further = part.with_number(n, i, choice);

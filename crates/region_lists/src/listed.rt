@@ -7,6 +7,7 @@ ghost use Rattle.automata.specs.Closed.{Ascends};
 ghost use Rattle.automata.specs.Checks.{same-row, belowb, has};
 ghost use Rattle.regions.specs.Values.{row-of, region-of};
 ghost use Rattle.region_lists.specs.Listed.{listed-row, listed-rows, Listed, Splits};
+ghost use Rattle.region_lists.specs.Ranked.{besideb};
 use regions::region::Clocks;
 use regions::region::Region;
 use rows::row::region_in;
@@ -72,6 +73,15 @@ fn row_is(list: &[u8], n: usize, i: usize, wanted: Region) -> bool
     ensures { λ r. ⌜ r ≡ same-row (listed-row n (now (list .entry)) i) (row-of n wanted) ⌝ }
 {
     shared_with(list, n, i, wanted) == 1 + 2 * n
+}
+
+// Whether row i has a region's location and intervals, whatever its ranks.
+pub fn row_is_beside(list: &[u8], n: usize, i: usize, wanted: Region) -> bool
+    requires { ⌜ n ≤ 4 ⌝ }
+    requires { ⌜ 4 + i * (3 + 2 * n) + (3 + 2 * n) ≤ length (now list) ⌝ }
+    ensures { λ r. ⌜ r ≡ besideb (listed-row n (now (list .entry)) i) (row-of n wanted) ⌝ }
+{
+    n < shared_with(list, n, i, wanted)
 }
 
 // Where to look next between low and high: at the hint, then from it in steps that double, then by halves. What is looked up mostly stands

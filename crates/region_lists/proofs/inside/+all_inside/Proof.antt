@@ -1,3 +1,5 @@
+use Rattle.regions.proofs.Laws.Values.{length-first}
+use Rattle.region_lists.proofs.Laws.Ranked.{visit-ranked}
 use denote.Ref.{now}
 use Prim.Native.Nat.{ℕ, _+_, _*_, _-_, _<_}
 use native.Mathlib.Omega.{arith}
@@ -17,6 +19,7 @@ use Rattle.region_lists.proofs.inside.all_inside.Reads as all-inside
 use Rattle.region_lists.proofs.inside.all_inside.Kinds as all-inside-kinds
 use Rattle.region_lists.proofs.inside.+all_inside.Lts-all_inside as all-inside-lts
 use Rattle.region_lists.proofs.inside.arrives_inside.Reads as arrives-inside-reads
+use Rattle.region_lists.proofs.ranked.has_all_ranked.Reads as has-all-ranked-reads
 use Rattle.edge_walk.proofs.choice.Search.is_stuck.Reads as is-stuck-reads
 use Rattle.edge_walk.proofs.choice.Search.last_choice.Reads as last-choice-reads
 use Rattle.edge_walk.proofs.choice.Search.next_choice.Reads as next-choice-reads
@@ -41,6 +44,8 @@ all-inside-claims t = (
   is-stuck-reads.Learnt,
   arrives-inside-reads.Asked,
   arrives-inside-reads.Learnt,
+  has-all-ranked-reads.Asked,
+  has-all-ranked-reads.Learnt,
   last-choice-reads.Asked,
   last-choice-reads.Learnt,
   next-choice-reads.Asked,
@@ -103,6 +108,17 @@ all-inside-returns-2 t c = let s = c .before .before .before .before .before .be
     let e : a .i ≡ 1 + 2 * a .s .clocks .count = c .before .if2 .taken in
     rw e (c .arrives-inside .ensures)
 
+-- src/inside.rt:61:18
+all-inside-has-all-ranked-requires : (t : ℕ) → all-inside-lts.Need-has-all-ranked-requires (all-inside-claims t) (all-inside-at t) all-inside.Post all-inside-Inv-loop all-inside-μ-loop
+all-inside-has-all-ranked-requires t c κs = let s = c .before .before .before .before .before in (s .pre .1 .0, s .pre .1 .1 .0)
+
+-- src/inside.rt:63:9
+all-inside-returns-3 : (t : ℕ) → all-inside-lts.Need-returns-3 (all-inside-claims t) (all-inside-at t) all-inside.Post all-inside-Inv-loop all-inside-μ-loop
+all-inside-returns-3 t c = let s = c .before .before .before .before .before .before .before in
+    let a = s .args in
+    let (e, all) = c .before .has-all-ranked .ensures (c .if3 .taken) in
+    rw (c .if3 .taken) (visit-ranked (a .s) (a .part) (a .i) (listed-rows (a .s .clocks .count) (now (a .list)) (a .count)) e (s .pre .1 .0 .sized) (length-first (a .s .clocks .count) (a .part .intervals) (s .pre .1 .0 .few .few) (all-inside-part t s .intervals)) all)
+
 -- src/inside.rt:60:9
 all-inside-last-choice-requires : (t : ℕ) → all-inside-lts.Need-last-choice-requires (all-inside-claims t) (all-inside-at t) all-inside.Post all-inside-Inv-loop all-inside-μ-loop
 all-inside-last-choice-requires t c κs = search needs
@@ -113,7 +129,7 @@ all-inside-next-choice-requires t c κs = search needs
 
 -- src/inside.rt:63:5
 all-inside-loop-holds : (t : ℕ) → all-inside-lts.Need-loop-holds (all-inside-claims t) (all-inside-at t) all-inside.Post all-inside-Inv-loop all-inside-μ-loop
-all-inside-loop-holds t c = let s = c .before .before .before .before .before .before .before in
+all-inside-loop-holds t c = let s = c .before .before .before .before .before .before .before .before .before in
     let a = s .args in
     visit-begins (a .s) (s .pre .1 .1 .1 .0) (all-inside-bounds t s) (all-inside-floor t s) (a .part) (all-inside-part t s) (a .i) (s .pre .1 .1 .1 .1) (has (listed-rows (a .s .clocks .count) (now (a .list)) (a .count))) _ (c .next-choice .ensures)
 
@@ -123,19 +139,19 @@ all-inside-with-number-requires t c κs = (search needs, (search needs, λ h. om
 
 -- src/inside.rt:65:57
 all-inside-add-all-inside : (t : ℕ) → all-inside-lts.Need-add-all-inside (all-inside-claims t) (all-inside-at t) all-inside.Post all-inside-Inv-loop all-inside-μ-loop
-all-inside-add-all-inside t c = search needs
+all-inside-add-all-inside t c = let p = c .before .before .before .before .before .before .before .before .before .before .before .before .pre .1 .1 .1 in omega (arith, p .0 .few .few, p .1 .within)
 
 -- src/inside.rt:65:13
 all-inside-all-inside-requires : (t : ℕ) → all-inside-lts.Need-all-inside-requires (all-inside-claims t) (all-inside-at t) all-inside.Post all-inside-Inv-loop all-inside-μ-loop
-all-inside-all-inside-requires t c κs = let s = c .before .before .before .before .before .before .before .before .before .before in
+all-inside-all-inside-requires t c κs = let s = c .before .before .before .before .before .before .before .before .before .before .before .before in
     let a = s .args in
-    (omega (arith, s .pre .0, s .pre .1 .1 .1 .1 .within, c .before .before .before .before .before .if2 .left), (s .pre .1 .0, (s .pre .1 .1 .0, (s .pre .1 .1 .1 .0, visit-further (a .s) (s .pre .1 .1 .1 .0) (all-inside-bounds t s) (all-inside-floor t s) (a .part) (all-inside-part t s) (a .i) (s .pre .1 .1 .1 .1) (has (listed-rows (a .s .clocks .count) (now (a .list)) (a .count))) (omega (arith, s .pre .1 .1 .1 .1 .within, c .before .before .before .before .before .if2 .left)) _ _ (c .with-number .ensures)))))
+    (omega (arith, s .pre .0, s .pre .1 .1 .1 .1 .within, c .before .before .before .before .before .before .before .if2 .left), (s .pre .1 .0, (s .pre .1 .1 .0, (s .pre .1 .1 .1 .0, visit-further (a .s) (s .pre .1 .1 .1 .0) (all-inside-bounds t s) (all-inside-floor t s) (a .part) (all-inside-part t s) (a .i) (s .pre .1 .1 .1 .1) (has (listed-rows (a .s .clocks .count) (now (a .list)) (a .count))) (omega (arith, s .pre .1 .1 .1 .1 .within, c .before .before .before .before .before .before .before .if2 .left)) _ _ (c .with-number .ensures)))))
 
 -- src/inside.rt:67:13
-all-inside-returns-3 : (t : ℕ) → all-inside-lts.Need-returns-3 (all-inside-claims t) (all-inside-at t) all-inside.Post all-inside-Inv-loop all-inside-μ-loop
-all-inside-returns-3 t c = let s = c .before .before .before .before .before .before .before .before .before .before .before .before .before in
+all-inside-returns-4 : (t : ℕ) → all-inside-lts.Need-returns-4 (all-inside-claims t) (all-inside-at t) all-inside.Post all-inside-Inv-loop all-inside-μ-loop
+all-inside-returns-4 t c = let s = c .before .before .before .before .before .before .before .before .before .before .before .before .before .before .before in
     let a = s .args in
-    visit-fails (a .s) (s .pre .1 .1 .1 .0) (all-inside-bounds t s) (all-inside-floor t s) (a .part) (all-inside-part t s) (a .i) (s .pre .1 .1 .1 .1) (has (listed-rows (a .s .clocks .count) (now (a .list)) (a .count))) (omega (arith, s .pre .1 .1 .1 .1 .within, c .before .before .before .before .before .before .before .before .if2 .left)) _ _ (c .before .before .before .with-number .ensures) _ (c .before .before .all-inside .ensures) (not-true _ (c .if3 .taken))
+    visit-fails (a .s) (s .pre .1 .1 .1 .0) (all-inside-bounds t s) (all-inside-floor t s) (a .part) (all-inside-part t s) (a .i) (s .pre .1 .1 .1 .1) (has (listed-rows (a .s .clocks .count) (now (a .list)) (a .count))) (omega (arith, s .pre .1 .1 .1 .1 .within, c .before .before .before .before .before .before .before .before .before .before .if2 .left)) _ _ (c .before .before .before .with-number .ensures) _ (c .before .before .all-inside .ensures) (not-true _ (c .if4 .taken))
 
 -- src/inside.rt:70:41
 all-inside-add-next-choice : (t : ℕ) → all-inside-lts.Need-add-next-choice (all-inside-claims t) (all-inside-at t) all-inside.Post all-inside-Inv-loop all-inside-μ-loop
@@ -143,9 +159,9 @@ all-inside-add-next-choice t c = search needs
 
 -- src/inside.rt:70:9
 all-inside-next-choice-requires-2 : (t : ℕ) → all-inside-lts.Need-next-choice-requires-2 (all-inside-claims t) (all-inside-at t) all-inside.Post all-inside-Inv-loop all-inside-μ-loop
-all-inside-next-choice-requires-2 t c κs = let s = c .before .before .before .before .before .before .before .before .before .before .before .before .before in
+all-inside-next-choice-requires-2 t c κs = let s = c .before .before .before .before .before .before .before .before .before .before .before .before .before .before .before in
     let a = s .args in
-    (s .pre .1 .1 .1 .0, (s .pre .1 .1 .1 .1 .begun, (omega (arith, s .pre .1 .1 .1 .1 .within, c .before .before .before .before .before .before .before .before .if2 .left))))
+    (s .pre .1 .1 .1 .0, (s .pre .1 .1 .1 .1 .begun, (omega (arith, s .pre .1 .1 .1 .1 .within, c .before .before .before .before .before .before .before .before .before .before .if2 .left))))
 
 -- src/inside.rt:63:5
 all-inside-loop-less : (t : ℕ) → all-inside-lts.Need-loop-less (all-inside-claims t) (all-inside-at t) all-inside.Post all-inside-Inv-loop all-inside-μ-loop
@@ -153,13 +169,13 @@ all-inside-loop-less t c = search needs
 
 -- src/inside.rt:63:5
 all-inside-loop-again : (t : ℕ) → all-inside-lts.Need-loop-again (all-inside-claims t) (all-inside-at t) all-inside.Post all-inside-Inv-loop all-inside-μ-loop
-all-inside-loop-again t c = let s = c .before .before .before .before .before .before .before .before .before .before .before .before .before .before in
+all-inside-loop-again t c = let s = c .before .before .before .before .before .before .before .before .before .before .before .before .before .before .before .before in
     let a = s .args in
-    visit-on (a .s) (s .pre .1 .1 .1 .0) (all-inside-bounds t s) (all-inside-floor t s) (a .part) (all-inside-part t s) (a .i) (s .pre .1 .1 .1 .1) (has (listed-rows (a .s .clocks .count) (now (a .list)) (a .count))) (omega (arith, s .pre .1 .1 .1 .1 .within, c .before .before .before .before .before .before .before .before .before .if2 .left)) _ _ (c .before .before .before .before .with-number .ensures) _ (c .before .before .before .before .before .before .loop .inv) _ (c .before .before .before .all-inside .ensures) (not-false _ (c .before .if3 .left)) (c .next-choice2 .ensures)
+    visit-on (a .s) (s .pre .1 .1 .1 .0) (all-inside-bounds t s) (all-inside-floor t s) (a .part) (all-inside-part t s) (a .i) (s .pre .1 .1 .1 .1) (has (listed-rows (a .s .clocks .count) (now (a .list)) (a .count))) (omega (arith, s .pre .1 .1 .1 .1 .within, c .before .before .before .before .before .before .before .before .before .before .before .if2 .left)) _ _ (c .before .before .before .before .with-number .ensures) _ (c .before .before .before .before .before .before .loop .inv) _ (c .before .before .before .all-inside .ensures) (not-false _ (c .before .if4 .left)) (c .next-choice2 .ensures)
 
 -- src/inside.rt:43:1
-all-inside-returns-4 : (t : ℕ) → all-inside-lts.Need-returns-4 (all-inside-claims t) (all-inside-at t) all-inside.Post all-inside-Inv-loop all-inside-μ-loop
-all-inside-returns-4 t c = let s = c .before .before .before .before .before .before .before .before .before in
+all-inside-returns-5 : (t : ℕ) → all-inside-lts.Need-returns-5 (all-inside-claims t) (all-inside-at t) all-inside.Post all-inside-Inv-loop all-inside-μ-loop
+all-inside-returns-5 t c = let s = c .before .before .before .before .before .before .before .before .before .before .before in
     let a = s .args in
     visit-ends (a .s) (s .pre .1 .1 .1 .0) (all-inside-bounds t s) (all-inside-floor t s) (a .part) (all-inside-part t s) (a .i) (s .pre .1 .1 .1 .1) (has (listed-rows (a .s .clocks .count) (now (a .list)) (a .count))) _ _ (c .before .loop .inv) (c .before .before .before .last-choice .ensures) (omega arith)
 
@@ -176,15 +192,17 @@ pub +all-inside-spec : {M : Type 1} → statement M
     (all-inside-add-if2 t)
     (all-inside-arrives-inside-requires t)
     (all-inside-returns-2 t)
+    (all-inside-has-all-ranked-requires t)
+    (all-inside-returns-3 t)
     (all-inside-last-choice-requires t)
     (all-inside-next-choice-requires t)
     (all-inside-loop-holds t)
     (all-inside-with-number-requires t)
     (all-inside-add-all-inside t)
     (all-inside-all-inside-requires t)
-    (all-inside-returns-3 t)
+    (all-inside-returns-4 t)
     (all-inside-add-next-choice t)
     (all-inside-next-choice-requires-2 t)
     (all-inside-loop-less t)
     (all-inside-loop-again t)
-    (all-inside-returns-4 t)
+    (all-inside-returns-5 t)
