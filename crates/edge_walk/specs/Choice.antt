@@ -11,7 +11,7 @@ use lib.Dec.{leb, ltb}
 use Rattle.automata.specs.Clocks.{at}
 use Rattle.automata.specs.Row.{Row, IsRow, Before, Below}
 use Rattle.automata.specs.Rows.{openb}
-use Rattle.automata.specs.Rankings.{open-clocks}
+use Rattle.automata.specs.Rankings.{usedb, rank-room}
 use Rattle.regions.specs.Values.{Few, bounds-of, row-of, region-of, sought}
 use Rattle.regions.specs.Order.{numbers}
 use Rattle.regions.specs.Placing.{still, placed-at}
@@ -73,11 +73,19 @@ pub record Underway (s : Search) (part : Region) (i : ℕ) (tight : Bool) : Type
 abbrev pub Goal : Search → Region → ℕ → Bool → Row → Type 0
 Goal s part i tight = Wanted (Candidate s) (numbers-of s (s .floor)) (numbers-of s part) i tight
 
--- the greatest rank of clock z: none is missing, so in an open interval it is no more than there are clocks with open intervals
+-- how many ranks there can be with none missing, once all intervals and the ranks of the first z clocks are chosen
+abbrev pub room : Clocks → Region → ℕ → ℕ
+room k part z = rank-room (bounds-of k) (row-of (k .count) part .intervals) (part .ranks) z (k .count)
+
+-- the greatest rank of clock z: in an open interval, the last there is room for
 abbrev pub rank-limit : Clocks → Region → ℕ → ℕ
-rank-limit k part z =
-    cond (openb (at (k .bounds) z) (at (part .intervals) z))
-    (open-clocks (bounds-of k) (row-of (k .count) part .intervals) (k .count)) 0
+rank-limit k part z = cond (openb (at (k .bounds) z) (at (part .intervals) z)) (room k part z) 0
+
+-- every rank from k to before m is one that a clock before z has, and so is the last there is room for
+pub record PassesOver (c : Clocks) (part : Region) (z k m : ℕ) : Type 0 where
+  pub on : k ≤ m
+  pub full : k < m → usedb (part .ranks) z (room c part z) ≡ true
+  pub over : (a : ℕ) → k ≤ a → a < m → usedb (part .ranks) z a ≡ true
 
 -- the ranks chosen so far have no positions
 unfoldable pub stuckb : Search → Region → ℕ → Bool

@@ -4,9 +4,12 @@ use regions::placing::Moves;
 use regions::region::Clocks;
 use regions::region::Region;
 use regions::region::is_open;
+use regions::room::is_used;
+use regions::room::next_unused;
 ghost use mathlib.Core.Path.{_≡_};
-ghost use Prim.Native.Nat.{_+_, _*_, _≤_, _<_};
-ghost use Rattle.edge_walk.specs.Choice.{rank-limit, stuckb, Ready, Skips, Ends};
+ghost use Prim.Native.Nat.{_+_, _*_, _≤_, _<_, max};
+ghost use Rattle.regions.specs.Values.{Few};
+ghost use Rattle.edge_walk.specs.Choice.{rank-limit, stuckb, PassesOver, Ready, Skips, Ends};
 
 // What the walk goes by: the clocks, their moves, and the region above which it seeks.
 pub struct Search {
@@ -15,9 +18,34 @@ pub struct Search {
     pub floor: Region,
 }
 
+// The least rank from this one on in an open interval.
+fn least_rank(from: u16) -> u16
+    ensures { λ r. ⌜ r ≡ max from 1 ⌝ }
+{
+    if from == 0 {
+        return 1;
+    }
+    from
+}
+
+// The least rank from this one on that clock z of the part may have in an open interval. Where a clock before it has the last rank there is room
+// for, every other clock has to have one that is missing, so those that are not are left out.
+fn next_rank(clocks: Clocks, part: Region, z: usize, from: u16) -> u16
+    requires { ⌜ Few clocks ⌝ }
+    requires { ⌜ z < clocks .count ⌝ }
+    ensures { λ r. ⌜ PassesOver clocks part z from r ⌝ }
+{
+    let ranks = part.ranks;
+    let last = part.rank_room(clocks, z);
+    if !is_used(ranks, z, last) {
+        return from;
+    }
+    next_unused(ranks, z, last, from)
+}
+
 impl Search {
-    // The greatest rank that clock z of the part may have, once all its intervals are chosen: 0 where its interval is not open, else as many as
-    // there are clocks with open intervals, since no rank is missing.
+    // The greatest rank that clock z of the part may have, once all its intervals and the ranks before are chosen: 0 where its interval is not
+    // open, else the last there is room for, since no rank is missing.
     fn last_rank(self, part: Region, z: usize) -> u8
         requires { ⌜ Ready self ⌝ }
         requires { ⌜ z < self .clocks .count ⌝ }
@@ -25,7 +53,7 @@ impl Search {
     {
         let clocks = self.clocks;
         if is_open(clocks.bounds[z], part.intervals[z]) {
-            return part.open_clocks(clocks);
+            return part.rank_room(clocks, z);
         }
         0
     }
@@ -46,7 +74,7 @@ impl Search {
     }
 
     // The least choice from this one on for number i of the part, or more than the greatest: intervals that the clock's move does not permit are
-    // left out.
+    // left out, and ranks that leave one missing.
     pub fn next_choice(self, part: Region, i: usize, from: u16) -> u16
         requires { ⌜ Ready self ⌝ }
         requires { ⌜ (0 < i) × (i < 1 + 2 * self .clocks .count) ⌝ }
@@ -58,15 +86,12 @@ impl Search {
             let asked = moves.each[i - 1];
             return asked.next_permitted(from);
         }
-        if 0 < from {
-            return from;
-        }
         let clocks = self.clocks;
         let z = i - 1 - n;
-        if is_open(clocks.bounds[z], part.intervals[z]) {
-            return 1;
+        if !is_open(clocks.bounds[z], part.intervals[z]) {
+            return from;
         }
-        0
+        next_rank(clocks, part, z, least_rank(from))
     }
 
     // Whether the ranks chosen so far have no positions, so that nothing can come of the part: seen before the next rank is chosen.

@@ -5,8 +5,9 @@ use mathlib.Core.Option.{Option, none, some}
 use mathlib.Core.List.{List}
 use lib.ListN.{length, getD}
 use lib.Dec.{eqb, leb, ltb}
-use Rattle.automata.specs.Clocks.{at, each, allb, someb, count}
+use Rattle.automata.specs.Clocks.{at, each, allb, count}
 use Rattle.automata.specs.Row.{Row}
+use Rattle.automata.specs.Rankings.{usedb}
 use Rattle.automata.specs.Edge.{Update, Edge, idle}
 use Rattle.automata.specs.Successors.{comparison-of}
 use Rattle.regions.specs.Move.{move-of}
@@ -62,10 +63,6 @@ moved c e r =
     (some (record { location = e .target; intervals = each (length c) (interval-at c e r); ranks = each (length c) (rank-at c e r) })) none
 
 -- ranks with none missing -------------------------------------------------------------------------------------------------------
-
--- some of n clocks has rank a
-unfoldable pub usedb : List ℕ → ℕ → ℕ → Bool
-usedb ks n a = someb n (λ (w : ℕ). eqb (at ks w) a)
 
 -- a table of ranks says that a is used
 abbrev pub marked : List Bool → ℕ → Bool

@@ -12,10 +12,11 @@ ghost use mathlib.Core.Bool.{true};
 ghost use Prim.Native.Nat.{ℕ, _+_, _≤_, _<_};
 ghost use Rattle.automata.specs.Clocks.{at, one-if, count};
 ghost use Rattle.automata.specs.Row.{IsRow};
+ghost use Rattle.automata.specs.Rankings.{usedb};
 ghost use Rattle.automata.specs.Edge.{Bounded};
 ghost use Rattle.automata.specs.Successors.{guardsb, held, edge-rows};
 ghost use Rattle.regions.specs.Values.{Few, bounds-of, row-of, padded, sought, found-of, update-of, edge-of};
-ghost use Rattle.regions.specs.Image.{settledb, deterministic, moved-interval, moved-rank, moved, marked, usedb, dense};
+ghost use Rattle.regions.specs.Image.{settledb, deterministic, moved-interval, moved-rank, moved, marked, dense};
 
 // Edges with one next region at most ---------------------------------------------------------------------------------------------
 

@@ -1,6 +1,7 @@
 // The region rules, by value: comparisons, guards, updates, edges, regions and what comes after them. Nothing here knows of files.
 pub mod comparison; // the table of comparisons
 pub mod region; // a region, the clocks' bounds
+pub mod room; // how many ranks there can be
 pub mod edge; // guards, updates, edges
 pub mod guard; // guards in a region
 pub mod order; // the order of regions

@@ -1,12 +1,10 @@
-// The order of regions, document 01's: by location, then intervals clock by clock, then ranks clock by clock. The numbers of a region stand in
-// that order, so the first of them in which two regions differ decides.
-use crate::region::Clocks;
+// The numbers of a region, in document 01's order of regions: the location, then intervals clock by clock, then ranks clock by clock. The first of them
+// in which two regions differ decides which is below the other.
 use crate::region::Region;
 ghost use mathlib.Core.Path.{_≡_};
 ghost use Prim.Native.Nat.{_+_, _*_, _≤_, _<_};
 ghost use Rattle.automata.specs.Clocks.{at};
-ghost use Rattle.automata.specs.Checks.{belowb};
-ghost use Rattle.regions.specs.Order.{numbers, put, shared};
+ghost use Rattle.regions.specs.Order.{numbers, put};
 ghost use Rattle.regions.specs.Values.{row-of};
 
 impl Region {
@@ -41,34 +39,5 @@ impl Region {
         }
         changed.ranks[i - 1 - n] = number as u8;
         changed
-    }
-
-    // How many numbers the two regions share before they differ.
-    fn shared_numbers(self, n: usize, other: Region) -> usize
-        requires { ⌜ n ≤ 4 ⌝ }
-        ensures { λ r. ⌜ r ≡ shared (numbers (row-of n self)) (numbers (row-of n other)) ⌝ }
-    {
-        let all = 1 + 2 * n;
-        let mut i = 0;
-        while i < all {
-            if self.number(n, i) != other.number(n, i) {
-                return i;
-            }
-            i += 1;
-        }
-        all
-    }
-
-    // Whether this region comes before the other in document 01's order.
-    pub fn is_below(self, clocks: Clocks, other: Region) -> bool
-        requires { ⌜ clocks .count ≤ 4 ⌝ }
-        ensures { λ r. ⌜ r ≡ belowb (row-of (clocks .count) self) (row-of (clocks .count) other) ⌝ }
-    {
-        let n = clocks.count as usize;
-        let i = self.shared_numbers(n, other);
-        if 1 + 2 * n <= i {
-            return false;
-        }
-        self.number(n, i) < other.number(n, i)
     }
 }

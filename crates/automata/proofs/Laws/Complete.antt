@@ -9,11 +9,11 @@ use mathlib.Core.List.{List, [], _∷_, _++_, map}
 use lib.ListN.{length}
 use Rattle.automata.specs.Clocks.{greatest}
 use Rattle.automata.specs.Row.{Row, Below}
-use Rattle.automata.specs.Point.{Contains, later, scaled}
+use Rattle.automata.specs.Point.{later, scaled}
 use Rattle.automata.specs.Wait.{wait}
 use Rattle.automata.specs.Edge.{Leads}
 use Rattle.automata.specs.Automaton.{Table, edge, final, Admitted}
-use Rattle.automata.specs.Run.{State, Move, first, after, Step, Run, begin, move, Reached}
+use Rattle.automata.specs.Run.{Move, first, after, Step, begin, move, Reached}
 use Rattle.automata.specs.Closed.{Mem, first-row, RowOf, Closed, ExactlyOne}
 use Rattle.automata.specs.Rows.{from, select, gather, rows-at}
 use Rattle.automata.specs.Successors.{next-rows}

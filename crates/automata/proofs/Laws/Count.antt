@@ -1,12 +1,17 @@
--- How many of 1 .. n pass a test: it grows with n, by one at each that passes, and leaves no number out. Assumes nothing.
+-- How many of 1 .. n pass a test: it grows with n, by one at each that passes, and leaves no number out; how the counts of two tests differ.
+-- Assumes nothing.
 use Prim.Native.Nat.{ℕ, zero, suc, _+_, _≤_, _<_}
 use native.Mathlib.Nat.{le-of-suc-le-suc}
-use native.Mathlib.Decide.{decLe}
+use native.Mathlib.Decide.{decLe, ℕ-discrete}
 use native.Mathlib.Omega.{arith}
 use mathlib.Core.Path.{_≡_, refl}
 use mathlib.Core.Bool.{Bool, true, false}
 use mathlib.Core.Logic.{_↔_}
 use Rattle.automata.specs.Clocks.{one-if, count}
+
+pub one-le : (b : Bool) → one-if b ≤ 1
+one-le true = omega arith
+one-le false = omega arith
 
 pub count-mono : (f : ℕ → Bool) (m n : ℕ) → m ≤ n → count f m ≤ count f n
 count-mono f m zero h = let e : m ≡ 0 = omega arith in rw e (omega arith)
@@ -33,11 +38,7 @@ count-dense f (suc n) k p h = go (decLe k (count f n)) (f (suc n)) refl (count-d
 -- no more pass than there are
 pub count-le : (f : ℕ → Bool) (n : ℕ) → count f n ≤ n
 count-le f zero = omega arith
-count-le f (suc n) = go (f (suc n)) (count-le f n)
-  where
-    go : (b : Bool) → count f n ≤ n → count f n + one-if b ≤ suc n
-    go true h = omega arith
-    go false h = omega arith
+count-le f (suc n) = omega (arith, count-le f n, one-le (f (suc n)))
 
 -- of two numbers that pass, the counts tell the order
 pub count-order : (f : ℕ → Bool) (a b : ℕ) → f a ≡ true → (count f a ≤ count f b) ↔ (a ≤ b)
@@ -46,3 +47,22 @@ count-order f a b e = (λ h. go h (decLe a b), count-mono f a b)
     go : count f a ≤ count f b → Dec (a ≤ b) → a ≤ b
     go h (yes l) = l
     go h (no l) = let q = count-less f b a (omega arith) e in absurd (omega arith)
+
+-- all pass
+pub count-all : (f : ℕ → Bool) (n : ℕ) → ((a : ℕ) → 0 < a → a ≤ n → f a ≡ true) → count f n ≡ n
+count-all f zero h = refl
+count-all f (suc n) h = let i = count-all f n (λ a p l. h a p (omega arith)) in rw (h (suc n) (omega arith) (omega arith)) (omega arith)
+
+-- tests that agree from 1 to n count alike
+pub count-same : (f g : ℕ → Bool) (n : ℕ) → ((a : ℕ) → 0 < a → a ≤ n → f a ≡ g a) → count f n ≡ count g n
+count-same f g zero h = refl
+count-same f g (suc n) h = rw (count-same f g n (λ a p l. h a p (omega arith)), h (suc n) (omega arith) (omega arith))
+
+-- tests that agree but at one number differ by one at most
+pub count-but : (f g : ℕ → Bool) (k n : ℕ) → ((a : ℕ) → 0 < a → a ≤ n → (a ≡ k → ⊥) → f a ≡ g a) → count f n ≤ count g n + 1
+count-but f g k zero h = omega arith
+count-but f g k (suc n) h = go (ℕ-discrete (suc n) k) (count-but f g k n (λ a p l. h a p (omega arith)))
+  where
+    go : Dec (suc n ≡ k) → count f n ≤ count g n + 1 → count f (suc n) ≤ count g (suc n) + 1
+    go (yes e) i = omega (arith, count-same f g n (λ a p l. h a p (omega arith) (λ q. omega arith)), one-le (f (suc n)))
+    go (no e) i = rw (h (suc n) (omega arith) (omega arith) e) (omega arith)

@@ -1,8 +1,9 @@
 -- The choices for one number of a row: which of them no candidate has. Assumes nothing.
-use Prim.Native.Nat.{ℕ, suc, _+_, _*_, _-_, _≤_, _<_}
+use Prim.Native.Nat.{ℕ, suc, _+_, _*_, _-_, _≤_, _<_, max}
+use native.Mathlib.Decide.{decLe}
 use native.Mathlib.Omega.{arith}
 use mathlib.Core.Path.{_≡_, refl, sym, ap, _∙_}
-use mathlib.Core.Bool.{Bool, true, false, cond, not, _&&_}
+use mathlib.Core.Bool.{Bool, true, false, cond, not}
 use mathlib.Core.Logic.{_⊎_, inl, inr}
 use mathlib.Core.List.{List}
 use lib.ListN.{length, getD, take}
@@ -10,21 +11,21 @@ use lib.Dec.{ltb}
 use lib.Seq.{ext-getD}
 use borrow.Author.Tests.{lt-ltb, le-leb}
 use Rattle.automata.specs.Clocks.{at, allb}
-use Rattle.automata.specs.Row.{Row, Open, IsRow}
+use Rattle.automata.specs.Row.{Row, Open}
 use Rattle.automata.specs.Rows.{openb}
-use Rattle.automata.specs.Rankings.{open-clocks}
+use Rattle.automata.specs.Rankings.{usedb}
 use Rattle.automata.specs.Successors.{least}
 use Rattle.regions.specs.Values.{bounds-of, row-of}
 use Rattle.regions.specs.Order.{numbers}
 use Rattle.regions.specs.Move.{permitsb}
 use Rattle.regions.specs.Placing.{still, rank-fits-at, greedy-at, placed-at}
-use Rattle.edge_walk.specs.Choice.{Agree, Candidate, Ready, numbers-of, rank-limit, stuckb, Skips, Ends}
+use Rattle.edge_walk.specs.Choice.{Agree, Candidate, Ready, numbers-of, room, rank-limit, stuckb, PassesOver, Skips, Ends}
 use Rattle.regions.specs.declared.clock_move.Move.{Move}
 use Rattle.regions.specs.declared.region.Region.{Region}
 use Rattle.edge_walk.specs.declared.choice.Search.{Search}
 use Rattle.automata.proofs.Laws.Tests.{Says, never, true-or-false, refutes, ltb-law, not-law, and-law, and-false}
 use Rattle.automata.proofs.Laws.Clocks.{openb-law}
-use Rattle.automata.proofs.Laws.Ranks.{open-clocks-le, rank-open-le}
+use Rattle.automata.proofs.Laws.Ranks.{rank-room-few, rank-room-le, rank-fresh}
 use Rattle.regions.proofs.Laws.Values.{at-take, length-first}
 use Rattle.automata.proofs.Laws.Leads.{Least, least-is}
 use Rattle.regions.proofs.Laws.Placing.{placed-permits, placed-less}
@@ -134,9 +135,8 @@ module _ (s : Search) (ready : Ready s) (four : length (s .clocks .bounds) ≡ 4
     abbrev inside : Bool
     inside = openb (at (s .clocks .bounds) z) (at (part .intervals) z)
 
-    -- the clocks with open intervals
     abbrev most : ℕ
-    most = open-clocks c (take n (part .intervals)) n
+    most = room (s .clocks) part z
 
     inside-law : (x : Row) → Candidate s x → Agree i (numbers x) (numbers-of s part) → Says inside (Open (at c z) (at (x .intervals) z))
     inside-law x q a =
@@ -150,7 +150,8 @@ module _ (s : Search) (ready : Ready s) (four : length (s .clocks .bounds) ≡ 4
         (λ w l. let k : w < n = omega (arith, its-length x q) in same-interval x q a w k (omega arith) ∙ sym (at-take n (part .intervals) w k))
 
     limited : (x : Row) → Candidate s x → Agree i (numbers x) (numbers-of s part) → (b : Bool) → inside ≡ b → at (x .ranks) z ≤ cond b most 0
-    limited x q a true e = rw (same-intervals x q a, clocks-count) at (rank-open-le c x (q .is-row) z)
+    limited x q a true e =
+        rw (same-intervals x q a, clocks-count) at (rank-room-le c x (q .is-row) (part .ranks) z (λ w l. same-rank x q a w (omega arith) (omega arith)) z)
     limited x q a false e =
         let shut : at (x .ranks) z ≡ 0 = q .is-row .rank-shut z (omega (arith, clocks-count)) (refutes inside (inside-law x q a) e) in
         omega arith
@@ -159,18 +160,32 @@ module _ (s : Search) (ready : Ready s) (four : length (s .clocks .bounds) ≡ 4
     rank-ends k e = record { low = omega (arith, small); low-rank = λ l. small; all = λ x q a. rw e (rw (at-rank n x (its-length x q) i h) (limited x q a inside refl)) }
       where
         few : (b : Bool) → cond b most 0 ≤ 4
-        few true = omega (arith, open-clocks-le c (take n (part .intervals)) n, ready .few .few)
+        few true = omega (arith, rank-room-few c (take n (part .intervals)) (part .ranks) z n, ready .few .few)
         few false = omega arith
 
         small : k ≤ 4
         small = rw e (few inside)
 
-    pub rank-skips : (j : ℕ) → inside ≡ true → j ≡ 0 → Skips s part i j 1
-    rank-skips j e f = rw f (record { on = omega arith; over = λ x q a l. ranked x q a })
+    -- no rank that a clock before has, where one has the last there is room for
+    fresh : (x : Row) → Candidate s x → Agree i (numbers x) (numbers-of s part) → inside ≡ true → usedb (part .ranks) z (room (s .clocks) part z) ≡ true
+        → usedb (part .ranks) z (at (x .ranks) z) ≡ false
+    fresh x q a e f =
+        rank-fresh c x (q .is-row) (part .ranks) z (λ w l. same-rank x q a w (omega arith) (omega arith))
+        (openb-law (at c z) (at (x .intervals) z) .1 (inside-law x q a .0 e)) (omega (arith, clocks-count))
+        (rw (same-intervals x q a, clocks-count) f)
+
+    pub rank-skips : (j k m : ℕ) → inside ≡ true → k ≡ max j 1 → PassesOver (s .clocks) part z k m → Skips s part i j m
+    rank-skips j k m e f p = record { on = omega (arith, p .on); over = over }
       where
-        ranked : (x : Row) → Candidate s x → Agree i (numbers x) (numbers-of s part) → 1 ≤ at (numbers x) i
-        ranked x q a =
-            omega (arith, at-rank n x (its-length x q) i h, q .is-row .rank-open z (omega (arith, clocks-count)) (inside-law x q a .0 e))
+        over : (x : Row) → Candidate s x → Agree i (numbers x) (numbers-of s part) → j ≤ at (numbers x) i → m ≤ at (numbers x) i
+        over x q a l = rw (at-rank n x (its-length x q) i h) (go (decLe m (at (x .ranks) z)))
+          where
+            from : k ≤ at (x .ranks) z
+            from = omega (arith, at-rank n x (its-length x q) i h, q .is-row .rank-open z (omega (arith, clocks-count)) (inside-law x q a .0 e))
+
+            go : Dec (m ≤ at (x .ranks) z) → m ≤ at (x .ranks) z
+            go (yes d) = d
+            go (no d) = never (sym (fresh x q a e (p .full (omega (arith, from)))) ∙ p .over (at (x .ranks) z) from (omega arith))
 
 -- the code's tests
 module _ (s : Search) (part : Region) (i : ℕ) where

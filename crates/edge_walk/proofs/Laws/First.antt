@@ -1,12 +1,10 @@
 -- The first of a sorted list's rows above a floor is the least of them. Assumes nothing.
-use native.Mathlib.Omega.{arith}
 use Rattle.automata.proofs.Laws.Ordered.{not-both-below}
 use mathlib.Core.Path.{_≡_, refl, sym, ap, _∙_}
 use mathlib.Core.Bool.{Bool, true, false, cond}
 use mathlib.Core.Logic.{_⊎_, inl, inr}
 use mathlib.Core.Option.{Option, none, some}
 use mathlib.Core.List.{List, [], _∷_, List·Memᴰ·head, List·Memᴰ·tail, List·Memᴰ·not-nil, List·Memᴰ·cases-cons}
-use Prim.Native.Nat.{ℕ}
 use Rattle.automata.specs.Row.{Row, Below}
 use Rattle.automata.specs.Closed.{Mem}
 use Rattle.regions.specs.Values.{sought}

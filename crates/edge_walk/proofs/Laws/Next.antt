@@ -3,23 +3,23 @@ use Prim.Native.Nat.{ℕ, zero, suc, _+_, _*_, _-_, _≤_, _<_}
 use native.Mathlib.Omega.{arith}
 use mathlib.Core.Path.{_≡_, refl, sym, ap, _∙_}
 use mathlib.Core.Bool.{Bool, true, false, _&&_}
-use mathlib.Core.Logic.{_⊎_, inl, inr}
-use mathlib.Core.Option.{Option, none, some}
+use mathlib.Core.Logic.{inl, inr}
+use mathlib.Core.Option.{none}
 use mathlib.Core.List.{List, [], _∷_}
 use lib.ListN.{length, getD, take}
-use lib.Dec.{eqb, leb, ltb}
+use lib.Dec.{eqb, ltb}
 use Rattle.automata.specs.Clocks.{at, allb, greatest}
 use Rattle.automata.specs.Row.{Row, IsRow, Before, Below}
 use Rattle.automata.specs.Edge.{Action, keep, constant, clock, Update, idle, Edge, Bounded}
 use Rattle.automata.specs.Closed.{Mem}
-use Rattle.automata.specs.Rows.{isrowb, rows-at}
+use Rattle.automata.specs.Rows.{rows-at}
 use Rattle.automata.specs.Successors.{guardsb, least, placedb, leadsb, edge-rows}
-use Rattle.regions.specs.Values.{Few, bounds-of, row-of, padded, region-of, sought, found-of, edge-of}
+use Rattle.regions.specs.Values.{Few, bounds-of, row-of, padded, sought, found-of, edge-of}
 use Rattle.edge_walk.specs.Walk.{above, first-above}
 use Rattle.regions.specs.Order.{numbers}
 use Rattle.regions.specs.Move.{move-of, permitsb}
 use Rattle.regions.specs.Placing.{still, placed-at, some-permitted, MovesOf}
-use Rattle.edge_walk.specs.Choice.{Agree, Candidate, Wanted, Answers, Ready, numbers-of, Underway, Goal}
+use Rattle.edge_walk.specs.Choice.{Candidate, Answers, Ready, Underway, Goal}
 use Rattle.regions.specs.declared.region.Clocks.{Clocks}
 use Rattle.regions.specs.declared.region.Region.{Region}
 use Rattle.regions.specs.declared.region.Sought.{Sought}
@@ -32,7 +32,7 @@ use Rattle.regions.proofs.Laws.Values.{at-take, length-first}
 use Rattle.automata.proofs.Laws.Members.{select-in, select-out, Sorted, sorted-select}
 use Rattle.automata.proofs.Laws.Ranks.{few-ranks}
 use Rattle.automata.proofs.Laws.Rows.{isrowb-law, rows-at-in, rows-at-sorted}
-use Rattle.automata.proofs.Laws.Leads.{Least, least-is}
+use Rattle.automata.proofs.Laws.Leads.{least-is}
 use Rattle.automata.proofs.Laws.Checks.{belowb-law}
 use Rattle.regions.proofs.Laws.Placing.{placed-permits, placed-same}
 use Rattle.edge_walk.proofs.Laws.Numbers.{below-before, before-below}

@@ -5,21 +5,17 @@ use mathlib.Core.Path.{_≡_, refl, ap, _∙_}
 use mathlib.Core.Bool.{true}
 use mathlib.Core.Logic.{_↔_}
 use mathlib.Core.List.{List}
-use lib.Dec.{eqb}
 use lib.ListN.{length}
 use Rattle.automata.specs.Clocks.{at, count}
-use Rattle.regions.specs.Image.{usedb, dense-rank, dense-at, dense}
-use Rattle.automata.proofs.Laws.Tests.{Says, eqb-law, someb-law}
+use Rattle.automata.specs.Rankings.{usedb}
+use Rattle.regions.specs.Image.{dense-rank, dense-at, dense}
 use Rattle.automata.proofs.Laws.Lists.{length-each, at-each}
+use Rattle.automata.proofs.Laws.Ranks.{used-law}
 use Rattle.automata.proofs.Laws.Count.{count-less, count-dense, count-le, count-order}
 
 module _ (ks : List ℕ) (n : ℕ) where
-  used-law : (a : ℕ) → Says (usedb ks n a) ((w : ℕ) × (w < n) × (at ks w ≡ a))
-  unfolding usedb
-  used-law a = someb-law n (λ (w : ℕ). eqb (at ks w) a) (λ w. eqb-law (at ks w) a)
-
   used-own : (z : ℕ) → z < n → usedb ks n (at ks z) ≡ true
-  used-own z h = used-law (at ks z) .1 (z, h, refl)
+  used-own z h = used-law ks n (at ks z) .1 (z, h, refl)
 
   pub length-dense : length (dense ks n) ≡ n
   unfolding dense
@@ -49,5 +45,5 @@ module _ (ks : List ℕ) (n : ℕ) where
   unfolding dense-rank
   dense-none-missing z k h p q =
       let (a, e, s) = count-dense (usedb ks n) (at ks z) k p (omega (arith, at-dense z h)) in
-      let (w, l, t) = used-law a .0 e in
+      let (w, l, t) = used-law ks n a .0 e in
       (w, l, at-dense w l ∙ ap (count (usedb ks n)) t ∙ s)

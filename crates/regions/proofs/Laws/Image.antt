@@ -1,14 +1,12 @@
 -- A deterministic edge leads from a row to the row that the definitions compute, and to no other. Assumes nothing.
 use Prim.Native.Nat.{ℕ, _+_}
 use Rattle.automata.proofs.Laws.Ordered.{below-itself}
-use native.Mathlib.Omega.{arith}
 use mathlib.Core.Path.{_≡_, refl, sym, ap, _∙_}
 use mathlib.Core.Bool.{Bool, true, false}
-use mathlib.Core.Logic.{inl, inr}
 use mathlib.Core.List.{List, [], _∷_, List·Memᴰ·head, List·Memᴰ·tail, List·Memᴰ·not-nil}
 use lib.ListN.{length}
 use Rattle.automata.specs.Clocks.{greatest, allb}
-use Rattle.automata.specs.Row.{Row, IsRow, Before, Below}
+use Rattle.automata.specs.Row.{Row, IsRow, Below}
 use Rattle.automata.specs.Edge.{Edge, Bounded, Leads}
 use Rattle.automata.specs.Closed.{Mem, Ascends}
 use Rattle.automata.specs.Successors.{guardsb, held, edge-rows}

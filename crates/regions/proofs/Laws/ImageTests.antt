@@ -12,12 +12,14 @@ use lib.Dec.{eqb}
 use borrow.Author.Tests.{eq-eqb, ne-eqb, le-ltb, lt-ltb}
 use Rattle.automata.specs.Clocks.{at, each, someb, one-if, count}
 use Rattle.automata.specs.Edge.{idle}
+use Rattle.automata.specs.Rankings.{usedb}
 use Rattle.regions.specs.Values.{padded, update-of, edge-of}
-use Rattle.regions.specs.Image.{settledb, settled-at, moved-interval, moved-rank, marked, usedb, dense-rank, dense-at, dense}
+use Rattle.regions.specs.Image.{settledb, settled-at, moved-interval, moved-rank, marked, dense-rank, dense-at, dense}
 use Rattle.regions.specs.declared.edge.Action as action-code
 use Rattle.regions.specs.declared.edge.Update as update-code
 use Rattle.regions.specs.declared.edge.Edge as edge-code
 use Rattle.regions.specs.declared.clock_move.Move.{Move}
+use Rattle.automata.proofs.Laws.Count.{count-same}
 use Rattle.regions.proofs.Laws.Values.{getD-mapped, padded-next}
 use Rattle.regions.proofs.Laws.Moves.{no-update}
 
@@ -86,11 +88,6 @@ marked-more ks z used long h f a l = rw add-one (go (ℕ-discrete (at ks z) a))
     go (yes e) = rw (eq-eqb (at ks z) a e, ← e) (getD-set-same used (at ks z) true false (omega arith))
     go (no e) = rw (ne-eqb (at ks z) a e) (getD-set-other used (at ks z) a true false (λ q. e (sym q)) ∙ f a l)
 
--- tests that agree from 1 to n count alike
-count-same : (f g : ℕ → Bool) (n : ℕ) → ((a : ℕ) → a ≤ n → f a ≡ g a) → count f n ≡ count g n
-count-same f g zero h = refl
-count-same f g (suc n) h = rw (count-same f g n (λ a l. h a (omega arith)), h (suc n) (omega arith))
-
 -- one rank more is counted
 pub total-more : (f : ℕ → Bool) (a total t : ℕ) → total ≡ count f a → t ≡ total + one-if (f (a + 1)) → t ≡ count f (a + 1)
 total-more f a total t p q = q ∙ rw (p, add-one)
@@ -107,7 +104,7 @@ counted-more f a t xs l e h b k = go (ℕ-discrete b (a + 1))
 pub counted-dense : (ks : List ℕ) (n : ℕ) (used : List Bool) (xs : List ℕ) → ((a : ℕ) → a < 5 → marked used a ≡ usedb ks n a)
     → ((a : ℕ) → a < 5 → at xs a ≡ count (marked used) a) → (a : ℕ) → a ≤ 4 → at xs a ≡ dense-rank ks n a
 unfolding dense-rank
-counted-dense ks n used xs f g a l = g a (omega arith) ∙ count-same (marked used) (usedb ks n) a (λ b k. f b (omega arith))
+counted-dense ks n used xs f g a l = g a (omega arith) ∙ count-same (marked used) (usedb ks n) a (λ b p k. f b (omega arith))
 
 -- only the ranks of the first clocks count
 pub dense-same : (ks ls : List ℕ) (n : ℕ) → ((z : ℕ) → at ks z ≡ at ls z) → dense ks n ≡ dense ls n

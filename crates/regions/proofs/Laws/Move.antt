@@ -1,6 +1,6 @@
 -- One clock's move: what it says of an update, the three cases of its test, and the stretches of intervals that it permits alike.
 -- Assumes nothing.
-use Prim.Native.Nat.{ℕ, zero, suc, _+_, _*_, _-_, _≤_, _<_, _%_, compare, Ordering, Ordering·lt, Ordering·eq, Ordering·gt}
+use Prim.Native.Nat.{ℕ, _+_, _*_, _≤_, _<_, _%_, compare, Ordering, Ordering·lt, Ordering·eq, Ordering·gt}
 use native.Mathlib.Nat.{add-zero}
 use native.Mathlib.Omega.{arith}
 use mathlib.Core.Path.{_≡_, refl, sym, ap, _∙_}
@@ -9,7 +9,7 @@ use mathlib.Core.List.{List}
 use lib.Dec.{eqb, leb}
 use lib.ListN.{length-take}
 use lib.Seq.{getD-take}
-use borrow.Author.Tests.{ne-eqb, lt-leb}
+use borrow.Author.Tests.{ne-eqb}
 use Rattle.automata.specs.Comparison.{answer, holds, some-answer}
 use Rattle.automata.specs.Clocks.{at}
 use Rattle.automata.specs.Row.{Row}

@@ -2,7 +2,7 @@
 use Prim.Native.Nat.{ℕ, zero, suc, _+_, _*_, _-_, _≤_, _<_, compare·suc-suc}
 use native.Mathlib.Numerals.{add-one}
 use native.Mathlib.Omega.{arith}
-use mathlib.Core.Path.{_≡_, refl, sym, _∙_}
+use mathlib.Core.Path.{_≡_, refl, sym}
 use mathlib.Core.Bool.{Bool, true, false, cond, _&&_, _||_}
 use mathlib.Core.List.{List, [], _∷_, _++_}
 use lib.ListN.{length, take, drop, length-append, List·getD-append}
@@ -15,7 +15,7 @@ use Rattle.automata.specs.Checks.{same, beforeb, same-row, belowb}
 use Rattle.regions.specs.Order.{numbers, shared}
 use Rattle.regions.specs.Values.{row-of}
 use Rattle.regions.specs.declared.region.Region.{Region}
-use Rattle.regions.proofs.Laws.Values.{at-take, at-out, length-first, drop-out}
+use Rattle.regions.proofs.Laws.Values.{at-take, length-first, drop-out}
 
 -- two lists of equal length -------------------------------------------------------------------------------------------------------------
 
@@ -136,44 +136,3 @@ module _ (n : ℕ) (v : Region) (few : n ≤ 4) (four : length (v .intervals) �
 
   pub length-numbers : length (v .ranks) ≡ 4 → length (numbers (row-of n v)) ≡ 1 + 2 * n
   length-numbers f = rw (length-append, length-first n (v .intervals) few four, length-first n (v .ranks) few f) (omega arith)
-
--- two of them
-module _ (n : ℕ) (v w : Region) where
-  abbrev ours : List ℕ
-  ours = numbers (row-of n v)
-
-  abbrev theirs : List ℕ
-  theirs = numbers (row-of n w)
-
-  module _ (few : n ≤ 4) (four : (length (v .intervals) ≡ 4) × (length (v .ranks) ≡ 4)) (four′ : (length (w .intervals) ≡ 4) × (length (w .ranks) ≡ 4)) where
-    long : length ours ≡ 1 + 2 * n
-    long = length-numbers n v few (four .0) (four .1)
-
-    alike : length ours ≡ length theirs
-    alike = long ∙ sym (length-numbers n w few (four′ .0) (four′ .1))
-
-    -- number by number, where i are shared
-    module _ (i : ℕ) (s : Shared ours theirs i) where
-      pub next-shared : i < 1 + 2 * n → at ours i ≡ at theirs i → Shared ours theirs (i + 1)
-      next-shared h q = shared-on ours theirs alike i s (rw long h) q
-
-      pub next-differs : i < 1 + 2 * n → (at ours i ≡ at theirs i → ⊥) → i ≡ shared ours theirs
-      next-differs h q = shared-here ours theirs alike i s (rw long h) q
-
-      pub no-next : i ≤ 1 + 2 * n → 1 + 2 * n ≤ i → 1 + 2 * n ≡ shared ours theirs
-      no-next h l = let e : 1 + 2 * n ≡ i = omega arith in e ∙ shared-all ours theirs alike i s (rw long l)
-
-    intervals-alike : length (take n (v .intervals)) ≡ length (take n (w .intervals))
-    intervals-alike = length-first n (v .intervals) few (four .0) ∙ sym (length-first n (w .intervals) few (four′ .0))
-
-    module _ (i : ℕ) (e : i ≡ shared ours theirs) where
-      -- below where the first number that is not shared is less
-      pub below-is : ltb (at ours i) (at theirs i) ≡ belowb (row-of n v) (row-of n w)
-      below-is = rw e (before-shared ours theirs alike) ∙ row-below (row-of n v) (row-of n w) intervals-alike
-
-      -- not below where there is none
-      pub not-below : 1 + 2 * n ≤ i → false ≡ belowb (row-of n v) (row-of n w)
-      not-below h =
-          let a : at ours i ≡ 0 = at-out ours i (rw long h) in
-          let b : at theirs i ≡ 0 = at-out theirs i (rw (← alike, long) h) in
-          sym (le-ltb (at ours i) (at theirs i) (omega arith)) ∙ below-is

@@ -1,21 +1,23 @@
 -- The test of rows as the code makes it: rank by rank and clock by clock, in the arrays of the clocks k and the region v; the count of clocks with
--- open intervals. Assumes nothing.
+-- open intervals, and the room for ranks. Assumes nothing.
 use Prim.Native.Nat.{ℕ, _+_, _*_, _≤_, _<_}
+use native.Mathlib.Decide.{ℕ-discrete}
 use native.Mathlib.Numerals.{add-one}
 use native.Mathlib.Omega.{arith}
-use mathlib.Core.Path.{_≡_, refl, sym, _∙_}
+use mathlib.Core.Path.{_≡_, refl, sym, ap, _∙_}
 use mathlib.Core.Bool.{Bool, true, false, cond, not, _&&_, _||_}
+use mathlib.Core.List.{List}
 use lib.ListN.{length}
 use lib.Dec.{eqb, leb, ltb}
-use borrow.Author.Tests.{eq-eqb, lt-ltb, le-ltb, lt-leb, le-leb}
+use borrow.Author.Tests.{eq-eqb, ne-eqb, lt-ltb, le-ltb, lt-leb, le-leb}
 use Rattle.automata.specs.Clocks.{at, allb, someb, one-if}
 use Rattle.automata.specs.Row.{Row}
 use Rattle.automata.specs.Rows.{openb, heldb, clockb, isrowb}
-use Rattle.automata.specs.Rankings.{open-clocks}
+use Rattle.automata.specs.Rankings.{open-clocks, usedb, newb, rank-room}
 use Rattle.regions.specs.Values.{bounds-of, row-of}
 use Rattle.regions.specs.declared.region.Clocks.{Clocks}
 use Rattle.regions.specs.declared.region.Region.{Region}
-use Rattle.regions.proofs.Laws.Values.{at-is, at-take, length-first, someb-found, someb-end}
+use Rattle.regions.proofs.Laws.Values.{at-is, at-take, length-first, someb-found, someb-more, someb-end}
 
 module _ (k : Clocks) (v : Region) where
   -- the row that the region is
@@ -75,9 +77,46 @@ module _ (k : Clocks) (v : Region) where
     unfolding open-clocks
     open-more t u b e f g = rw (add-one, at-take (k .count) (k .bounds) z h, at-take (k .count) (v .intervals) z h, ← e, ← f) g
 
+    -- the room for ranks: the next clock counts where it can have a new one
+    pub room-more : (w t u : ℕ) (b : Bool) → t ≡ rank-room (bounds-of k) (row .intervals) (v .ranks) w z
+        → b ≡ cond (ltb z w) (newb (v .ranks) z) (openb (at (k .bounds) z) (at (v .intervals) z)) → u ≡ t + one-if b
+        → u ≡ rank-room (bounds-of k) (row .intervals) (v .ranks) w (z + 1)
+    unfolding rank-room
+    room-more w t u b e f g = rw (add-one, at-take (k .count) (k .bounds) z h, at-take (k .count) (v .intervals) z h, ← e, ← f) g
+
   -- the row: its clocks decide
   pub row-is : k .count ≤ 4 → length (k .bounds) ≡ 4 → length (v .intervals) ≡ 4 → length (v .ranks) ≡ 4
       → allb (k .count) (clockb (bounds-of k) row) ≡ isrowb (bounds-of k) row
   unfolding isrowb
   row-is few l m n =
       rw (length-first (k .count) (k .bounds) few l, length-first (k .count) (v .intervals) few m, length-first (k .count) (v .ranks) few n, eq-eqb (k .count) (k .count) refl)
+
+-- ranks that clocks have ----------------------------------------------------------------------------------------------------------------
+
+module _ (ks : List ℕ) where
+  -- a clock has the rank
+  pub used-found : (n a z : ℕ) → z < n → at ks z ≡ a → true ≡ usedb ks n a
+  unfolding usedb
+  used-found n a z h e = sym (someb-found (at-is ks a) n z h (eq-eqb (at ks z) a e))
+
+  -- one clock more does not
+  pub used-more : (a z : ℕ) → usedb ks z a ≡ false → (at ks z ≡ a → ⊥) → usedb ks (z + 1) a ≡ false
+  unfolding usedb
+  used-more a z e n = someb-more (at-is ks a) z e (ne-eqb (at ks z) a n)
+
+  -- rank 0 is not new, any other where no clock before has it
+  pub not-new : (z : ℕ) → at ks z ≡ 0 → false ≡ newb ks z
+  unfolding newb
+  not-new z e = rw (le-ltb 0 (at ks z) (omega arith))
+
+  pub new-is : (z : ℕ) (b : Bool) → (at ks z ≡ 0 → ⊥) → b ≡ usedb ks z (at ks z) → not b ≡ newb ks z
+  unfolding newb
+  new-is z b n e = rw (lt-ltb 0 (at ks z) (omega arith), ← e)
+
+  -- ranks from f on that the first n clocks have: one more
+  pub used-run : (n f z : ℕ) → ((a : ℕ) → f ≤ a → a < z → usedb ks n a ≡ true) → usedb ks n z ≡ true → (a : ℕ) → f ≤ a → a < z + 1 → usedb ks n a ≡ true
+  used-run n f z h e a l k = go (ℕ-discrete a z)
+    where
+      go : Dec (a ≡ z) → usedb ks n a ≡ true
+      go (yes q) = ap (usedb ks n) q ∙ e
+      go (no q) = h a l (omega arith)

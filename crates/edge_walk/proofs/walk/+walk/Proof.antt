@@ -1,6 +1,4 @@
 use lib.ListN.{length}
-use Rattle.edge_walk.specs.Choice.{Underway, Goal, Answers, stuckb}
-use mathlib.Core.Bool.{false}
 use mathlib.Core.Path.{_≡_, sym, _∙_}
 use native.Mathlib.Omega.{arith}
 use Rattle.edge_walk.proofs.Laws.Search.{stuck, begin, exhausted, onward, found, go-on}

@@ -4,10 +4,6 @@ use Rattle.edge_walk.proofs.Laws.Search.{at-floor, no-region, arrived}
 use borrow.Author.Needs.{needs}
 use Rattle.edge_walk.proofs.walk.arrive.Statement.{statement}
 use Rattle.edge_walk.proofs.walk.arrive.Tie as tie
-use Rattle.edge_walk.proofs.walk.arrive.Reads as reads
-use Rattle.edge_walk.proofs.walk.arrive.Lts as lts
-use Rattle.regions.proofs.region.Region.is_region.Reads as is-region-reads
-use Rattle.regions.proofs.region.missing.Reads as missing-reads
 
 -- src/walk.rt:40:9
 missing-requires : tie.Need-missing-requires

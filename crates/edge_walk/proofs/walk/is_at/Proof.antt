@@ -1,8 +1,6 @@
 use borrow.Author.Tests.{not-true, not-false}
 use Rattle.edge_walk.proofs.walk.is_at.Statement.{statement}
 use Rattle.edge_walk.proofs.walk.is_at.Tie as tie
-use Rattle.edge_walk.proofs.walk.is_at.Reads as reads
-use Rattle.edge_walk.proofs.walk.is_at.Lts as lts
 
 -- src/walk.rt:104:9
 returns : tie.Need-returns

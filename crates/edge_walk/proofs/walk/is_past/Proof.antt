@@ -1,8 +1,6 @@
 use borrow.Author.Tests.{not-true, not-false}
 use Rattle.edge_walk.proofs.walk.is_past.Statement.{statement}
 use Rattle.edge_walk.proofs.walk.is_past.Tie as tie
-use Rattle.edge_walk.proofs.walk.is_past.Reads as reads
-use Rattle.edge_walk.proofs.walk.is_past.Lts as lts
 
 -- src/walk.rt:93:9
 returns : tie.Need-returns

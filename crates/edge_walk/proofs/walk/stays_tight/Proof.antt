@@ -1,8 +1,6 @@
 use borrow.Author.Tests.{not-true, not-false}
 use Rattle.edge_walk.proofs.walk.stays_tight.Statement.{statement}
 use Rattle.edge_walk.proofs.walk.stays_tight.Tie as tie
-use Rattle.edge_walk.proofs.walk.stays_tight.Reads as reads
-use Rattle.edge_walk.proofs.walk.stays_tight.Lts as lts
 
 -- src/walk.rt:27:9
 returns : tie.Need-returns

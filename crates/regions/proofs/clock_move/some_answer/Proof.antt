@@ -3,9 +3,6 @@ use mathlib.Core.Path.{sym, _∙_}
 use borrow.Author.Needs.{needs}
 use Rattle.regions.proofs.clock_move.some_answer.Statement.{statement}
 use Rattle.regions.proofs.clock_move.some_answer.Tie as tie
-use Rattle.regions.proofs.clock_move.some_answer.Reads as reads
-use Rattle.regions.proofs.clock_move.some_answer.Lts as lts
-use Rattle.regions.proofs.comparison.holds.Reads as holds-reads
 
 -- src/clock_move.rt:33:8
 holds-requires : tie.Need-holds-requires

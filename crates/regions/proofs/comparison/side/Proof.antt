@@ -1,5 +1,3 @@
-use mathlib.Core.Path.{ap}
-use Rattle.automata.specs.Comparison.{place}
 use Rattle.automata.proofs.Laws.Order.{compare-lt, compare-eq, compare-gt}
 use native.Mathlib.Omega.{arith}
 use Rattle.regions.proofs.comparison.side.Statement.{statement}

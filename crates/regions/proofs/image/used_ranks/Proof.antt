@@ -1,6 +1,7 @@
 use mathlib.Core.Bool.{true}
 use Rattle.automata.specs.Clocks.{at}
-use Rattle.regions.specs.Image.{marked, usedb}
+use Rattle.automata.specs.Rankings.{usedb}
+use Rattle.regions.specs.Image.{marked}
 use lib.ListN.{length, length-set}
 use native.Mathlib.Omega.{arith}
 use Prim.Native.Nat.{ℕ, _-_, _≤_, _<_}

@@ -3,9 +3,6 @@ use mathlib.Core.Path.{_∙_}
 use borrow.Author.Needs.{needs}
 use Rattle.regions.proofs.placing.clock_fits.Statement.{statement}
 use Rattle.regions.proofs.placing.clock_fits.Tie as tie
-use Rattle.regions.proofs.placing.clock_fits.Reads as reads
-use Rattle.regions.proofs.placing.clock_fits.Lts as lts
-use Rattle.regions.proofs.clock_move.Move.fits_at.Reads as fits-at-reads
 
 -- src/placing.rt:59:9
 returns : tie.Need-returns

@@ -1,40 +1,36 @@
 use borrow.Author.Needs.{needs}
 use Rattle.edge_walk.proofs.choice.Search.last_rank.Statement.{statement}
 use Rattle.edge_walk.proofs.choice.Search.last_rank.Tie as tie
-use Rattle.edge_walk.proofs.choice.Search.last_rank.Reads as reads
-use Rattle.edge_walk.proofs.choice.Search.last_rank.Lts as lts
-use Rattle.regions.proofs.region.Region.open_clocks.Reads as open-clocks-reads
-use Rattle.regions.proofs.region.is_open.Reads as is-open-reads
 
--- src/choice.rt:27:20
+-- src/choice.rt:55:20
 mul-is-open : tie.Need-mul-is-open
 mul-is-open c = search needs
 
--- src/choice.rt:27:20
+-- src/choice.rt:55:20
 element-copy-out-is-open : tie.Need-element-copy-out-is-open
 element-copy-out-is-open c = search needs
 
--- src/choice.rt:27:38
+-- src/choice.rt:55:38
 mul-is-open-2 : tie.Need-mul-is-open-2
 mul-is-open-2 c = search needs
 
--- src/choice.rt:27:38
+-- src/choice.rt:55:38
 element-copy-out-is-open-2 : tie.Need-element-copy-out-is-open-2
 element-copy-out-is-open-2 c = search needs
 
--- src/choice.rt:27:12
+-- src/choice.rt:55:12
 is-open-requires : tie.Need-is-open-requires
 is-open-requires c κs = c .before .before .before .pre .0 .few .low _
 
--- src/choice.rt:28:13
-open-clocks-requires : tie.Need-open-clocks-requires
-open-clocks-requires c κs = search needs
+-- src/choice.rt:56:13
+rank-room-requires : tie.Need-rank-room-requires
+rank-room-requires c κs = search needs
 
--- src/choice.rt:28:13
+-- src/choice.rt:56:13
 returns : tie.Need-returns
-returns c = rw (← c .before .before .is-open .ensures, c .before .if1 .taken) (c .open-clocks .ensures)
+returns c = rw (← c .before .before .is-open .ensures, c .before .if1 .taken) (c .rank-room .ensures)
 
--- src/choice.rt:21:5
+-- src/choice.rt:49:5
 returns-2 : tie.Need-returns-2
 returns-2 c = rw (← c .before .is-open .ensures, c .if1 .left)
 
@@ -47,6 +43,6 @@ last-rank-spec =
     mul-is-open-2
     element-copy-out-is-open-2
     is-open-requires
-    open-clocks-requires
+    rank-room-requires
     returns
     returns-2)

@@ -3,12 +3,6 @@ use Rattle.regions.proofs.Laws.Move.{fits-free, fits-parts, fits-fixed}
 use borrow.Author.Needs.{needs}
 use Rattle.regions.proofs.clock_move.Move.fits_at.Statement.{statement}
 use Rattle.regions.proofs.clock_move.Move.fits_at.Tie as tie
-use Rattle.regions.proofs.clock_move.Move.fits_at.Reads as reads
-use Rattle.regions.proofs.clock_move.Move.fits_at.Lts as lts
-use Rattle.regions.proofs.clock_move.Move.is_by_parts.Reads as is-by-parts-reads
-use Rattle.regions.proofs.clock_move.Move.is_free.Reads as is-free-reads
-use Rattle.regions.proofs.clock_move.some_answer.Reads as some-answer-reads
-use Rattle.regions.proofs.comparison.holds.Reads as holds-reads
 
 -- src/clock_move.rt:113:12
 is-free-requires : tie.Need-is-free-requires

@@ -2,8 +2,6 @@ use borrow.Author.Tests.{eq-eqb, ne-eqb}
 use borrow.Author.Needs.{needs}
 use Rattle.regions.proofs.clock_move.Move.is_by_parts.Statement.{statement}
 use Rattle.regions.proofs.clock_move.Move.is_by_parts.Tie as tie
-use Rattle.regions.proofs.clock_move.Move.is_by_parts.Reads as reads
-use Rattle.regions.proofs.clock_move.Move.is_by_parts.Lts as lts
 
 -- src/clock_move.rt:103:33
 cast-if1 : tie.Need-cast-if1

@@ -2,8 +2,6 @@ use borrow.Author.Tests.{eq-eqb, ne-eqb}
 use borrow.Author.Needs.{needs}
 use Rattle.regions.proofs.clock_move.Move.is_free.Statement.{statement}
 use Rattle.regions.proofs.clock_move.Move.is_free.Tie as tie
-use Rattle.regions.proofs.clock_move.Move.is_free.Reads as reads
-use Rattle.regions.proofs.clock_move.Move.is_free.Lts as lts
 
 -- src/clock_move.rt:94:13
 returns : tie.Need-returns

@@ -7,10 +7,6 @@ use Rattle.regions.proofs.Laws.Least.{least-here, least-none, least-lea
 use borrow.Author.Needs.{needs}
 use Rattle.regions.proofs.clock_move.Move.next_permitted.Statement.{statement}
 use Rattle.regions.proofs.clock_move.Move.next_permitted.Tie as tie
-use Rattle.regions.proofs.clock_move.Move.next_permitted.Reads as reads
-use Rattle.regions.proofs.clock_move.Move.next_permitted.Lts as lts
-use Rattle.regions.proofs.clock_move.Move.next_stretch.Reads as next-stretch-reads
-use Rattle.regions.proofs.clock_move.Move.permits.Reads as permits-reads
 
 abbrev Inv-loop : tie.InvT-loop
 Inv-loop self from interval₀ interval = least (permitsb self) (self .top + 1 - from) from ≡ least (permitsb self) (self .top + 1 - interval) interval

@@ -3,8 +3,6 @@ use Rattle.regions.proofs.Laws.Move.{stretch-one, stretch-below, stretc
 use borrow.Author.Needs.{needs}
 use Rattle.regions.proofs.clock_move.Move.next_stretch.Statement.{statement}
 use Rattle.regions.proofs.clock_move.Move.next_stretch.Tie as tie
-use Rattle.regions.proofs.clock_move.Move.next_stretch.Reads as reads
-use Rattle.regions.proofs.clock_move.Move.next_stretch.Lts as lts
 
 -- src/clock_move.rt:142:20
 add-result : tie.Need-add-result

@@ -3,12 +3,6 @@ use Rattle.regions.proofs.Laws.Move.{permits-free, permits-parts, permi
 use borrow.Author.Needs.{needs}
 use Rattle.regions.proofs.clock_move.Move.permits.Statement.{statement}
 use Rattle.regions.proofs.clock_move.Move.permits.Tie as tie
-use Rattle.regions.proofs.clock_move.Move.permits.Reads as reads
-use Rattle.regions.proofs.clock_move.Move.permits.Lts as lts
-use Rattle.regions.proofs.clock_move.Move.is_by_parts.Reads as is-by-parts-reads
-use Rattle.regions.proofs.clock_move.Move.is_free.Reads as is-free-reads
-use Rattle.regions.proofs.clock_move.some_answer.Reads as some-answer-reads
-use Rattle.regions.proofs.comparison.holds.Reads as holds-reads
 
 -- src/clock_move.rt:126:12
 is-free-requires : tie.Need-is-free-requires

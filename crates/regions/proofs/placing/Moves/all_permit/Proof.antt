@@ -1,18 +1,14 @@
 use Rattle.regions.proofs.Laws.Moves.{none-permitted, one-permitted}
-use borrow.Author.Tests.{lt-leb, le-leb}
 use Rattle.regions.specs.Placing.{some-permitted}
 use Rattle.automata.specs.Clocks.{allb}
 use mathlib.Core.Bool.{true}
-use mathlib.Core.Path.{_≡_, refl, sym, _∙_}
+use mathlib.Core.Path.{_≡_, refl, sym}
 use Prim.Native.Nat.{_-_, _≤_}
 use native.Mathlib.Omega.{arith}
 use Rattle.regions.proofs.Laws.Values.{allb-more, allb-fails, allb-end}
 use borrow.Author.Needs.{needs}
 use Rattle.regions.proofs.placing.Moves.all_permit.Statement.{statement}
 use Rattle.regions.proofs.placing.Moves.all_permit.Tie as tie
-use Rattle.regions.proofs.placing.Moves.all_permit.Reads as reads
-use Rattle.regions.proofs.placing.Moves.all_permit.Lts as lts
-use Rattle.regions.proofs.clock_move.Move.next_permitted.Reads as next-permitted-reads
 
 abbrev Inv-loop : tie.InvT-loop
 Inv-loop count self z₀ z = (z ≤ count) × (allb z (some-permitted (self .each)) ≡ true)

@@ -4,11 +4,6 @@ use Rattle.regions.proofs.Laws.Placing.{not-placed, is-placed}
 use borrow.Author.Needs.{needs}
 use Rattle.regions.proofs.placing.Moves.are_placed.Statement.{statement}
 use Rattle.regions.proofs.placing.Moves.are_placed.Tie as tie
-use Rattle.regions.proofs.placing.Moves.are_placed.Reads as reads
-use Rattle.regions.proofs.placing.Moves.are_placed.Lts as lts
-use Rattle.regions.proofs.placing.Moves.least_position.Reads as least-position-reads
-use Rattle.regions.proofs.placing.Moves.rank_fits.Reads as rank-fits-reads
-use Rattle.regions.proofs.region.Region.greatest_rank_of.Reads as greatest-rank-of-reads
 
 -- src/placing.rt:102:13
 rank-fits-requires : tie.Need-rank-fits-requires

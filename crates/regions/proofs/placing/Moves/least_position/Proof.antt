@@ -6,9 +6,6 @@ use Rattle.regions.proofs.Laws.Placing.{greedy-more, greedy-bound}
 use borrow.Author.Needs.{needs}
 use Rattle.regions.proofs.placing.Moves.least_position.Statement.{statement}
 use Rattle.regions.proofs.placing.Moves.least_position.Tie as tie
-use Rattle.regions.proofs.placing.Moves.least_position.Reads as reads
-use Rattle.regions.proofs.placing.Moves.least_position.Lts as lts
-use Rattle.regions.proofs.placing.Moves.next_position.Reads as next-position-reads
 
 abbrev Inv-loop : tie.InvT-loop
 Inv-loop self part count rank position₀ placed₀ position placed = (placed ≤ rank) × (position ≡ greedy-at (rank-fits-at (self .each) count (part .intervals) (part .ranks)) (self .ranks) placed)

@@ -7,9 +7,6 @@ use Rattle.regions.proofs.Laws.Least.{least-here, least-none, least-nex
 use borrow.Author.Needs.{needs}
 use Rattle.regions.proofs.placing.Moves.next_position.Statement.{statement}
 use Rattle.regions.proofs.placing.Moves.next_position.Tie as tie
-use Rattle.regions.proofs.placing.Moves.next_position.Reads as reads
-use Rattle.regions.proofs.placing.Moves.next_position.Lts as lts
-use Rattle.regions.proofs.placing.Moves.rank_fits.Reads as rank-fits-reads
 
 abbrev Inv-loop : tie.InvT-loop
 Inv-loop self part count rank from last position₀ position = least (rank-fits-at (self .each) count (part .intervals) (part .ranks) rank) (2 * self .ranks + 1 - from) from ≡ least (rank-fits-at (self .each) count (part .intervals) (part .ranks) rank) (2 * self .ranks + 1 - position) position

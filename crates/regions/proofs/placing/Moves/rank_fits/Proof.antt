@@ -9,9 +9,6 @@ use borrow.Author.Tests.{not-true, not-false}
 use borrow.Author.Needs.{needs}
 use Rattle.regions.proofs.placing.Moves.rank_fits.Statement.{statement}
 use Rattle.regions.proofs.placing.Moves.rank_fits.Tie as tie
-use Rattle.regions.proofs.placing.Moves.rank_fits.Reads as reads
-use Rattle.regions.proofs.placing.Moves.rank_fits.Lts as lts
-use Rattle.regions.proofs.placing.clock_fits.Reads as clock-fits-reads
 
 abbrev Inv-loop : tie.InvT-loop
 Inv-loop count rank position self part z₀ z = (z ≤ count) × (allb z (clock-fits-at (self .each) (part .intervals) (part .ranks) rank position) ≡ true)

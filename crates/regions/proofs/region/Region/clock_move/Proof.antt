@@ -3,10 +3,6 @@ use Rattle.regions.proofs.Laws.Move.{clock-in, move-keep, move-constant
 use borrow.Author.Needs.{needs}
 use Rattle.regions.proofs.region.Region.clock_move.Statement.{statement}
 use Rattle.regions.proofs.region.Region.clock_move.Tie as tie
-use Rattle.regions.proofs.region.Region.clock_move.Reads as reads
-use Rattle.regions.proofs.region.Region.clock_move.Lts as lts
-use Rattle.regions.proofs.clock_move.raised.Reads as raised-reads
-use Rattle.regions.proofs.clock_move.twice.Reads as twice-reads
 
 -- src/clock_move.rt:63:23
 mul-top : tie.Need-mul-top

@@ -7,9 +7,6 @@ use Rattle.regions.proofs.Laws.WaitTests.{greatest-more}
 use borrow.Author.Needs.{needs}
 use Rattle.regions.proofs.region.Region.greatest_rank_of.Statement.{statement}
 use Rattle.regions.proofs.region.Region.greatest_rank_of.Tie as tie
-use Rattle.regions.proofs.region.Region.greatest_rank_of.Reads as reads
-use Rattle.regions.proofs.region.Region.greatest_rank_of.Lts as lts
-use Rattle.regions.proofs.wait.greater.Reads as greater-reads
 
 abbrev Inv-loop : tie.InvT-loop
 Inv-loop count self g₀ z₀ g z = (z ≤ count) × (g ≡ greatest (take z (self .ranks)))

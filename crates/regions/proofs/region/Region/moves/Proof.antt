@@ -13,10 +13,6 @@ use native.Mathlib.Omega.{arith}
 use borrow.Author.Needs.{needs}
 use Rattle.regions.proofs.region.Region.moves.Statement.{statement}
 use Rattle.regions.proofs.region.Region.moves.Tie as tie
-use Rattle.regions.proofs.region.Region.moves.Reads as reads
-use Rattle.regions.proofs.region.Region.moves.Lts as lts
-use Rattle.regions.proofs.region.Region.clock_move.Reads as clock-move-reads
-use Rattle.regions.proofs.region.Region.greatest_rank_of.Reads as greatest-rank-of-reads
 
 abbrev Inv-loop : tie.InvT-loop
 Inv-loop self clocks e n each₀ z₀ each z = (z ≤ n) × (length each ≡ 4) × ((w : ℕ) → w < z → getD each w still ≡ move-of (bounds-of clocks) (row-of (clocks .count) self) w (getD (edge-of (clocks .count) e .updates) w idle))

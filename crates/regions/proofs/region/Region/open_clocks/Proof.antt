@@ -10,9 +10,6 @@ use Rattle.automata.proofs.Laws.Ranks.{open-clocks-le}
 use Rattle.regions.proofs.Laws.RegionTests.{open-more}
 use Rattle.regions.proofs.region.Region.open_clocks.Statement.{statement}
 use Rattle.regions.proofs.region.Region.open_clocks.Tie as tie
-use Rattle.regions.proofs.region.Region.open_clocks.Reads as reads
-use Rattle.regions.proofs.region.Region.open_clocks.Lts as lts
-use Rattle.regions.proofs.region.is_open.Reads as is-open-reads
 
 abbrev Inv-loop : tie.InvT-loop
 Inv-loop self clocks n total₀ z₀ total z = (z ≤ n) × (total ≡ open-clocks (bounds-of clocks) (row-of (clocks .count) self .intervals) z)

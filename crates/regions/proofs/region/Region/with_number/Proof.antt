@@ -4,8 +4,6 @@ use Rattle.regions.specs.Order.{put}
 use borrow.Author.Needs.{needs}
 use Rattle.regions.proofs.region.Region.with_number.Statement.{statement}
 use Rattle.regions.proofs.region.Region.with_number.Tie as tie
-use Rattle.regions.proofs.region.Region.with_number.Reads as reads
-use Rattle.regions.proofs.region.Region.with_number.Lts as lts
 
 -- src/order.rt:39:31
 sub-changed : tie.Need-sub-changed

@@ -1,0 +1,35 @@
+use native.Mathlib.Omega.{arith}
+use mathlib.Core.Path.{sym, ap, _∙_}
+use borrow.Author.Tests.{not-false}
+use Rattle.automata.specs.Rankings.{usedb}
+use borrow.Author.Needs.{needs}
+use Rattle.edge_walk.proofs.choice.next_rank.Statement.{statement}
+use Rattle.edge_walk.proofs.choice.next_rank.Tie as tie
+
+-- src/choice.rt:39:9
+rank-room-requires : tie.Need-rank-room-requires
+rank-room-requires c κs = search needs
+
+-- src/choice.rt:40:9
+is-used-requires : tie.Need-is-used-requires
+is-used-requires c κs = search needs
+
+-- src/choice.rt:41:9
+returns : tie.Need-returns
+returns c = record { on = omega arith; full = λ l. absurd (omega arith); over = λ a l k. absurd (omega arith) }
+
+-- src/choice.rt:43:5
+next-unused-requires : tie.Need-next-unused-requires
+next-unused-requires c κs = search needs
+
+-- src/choice.rt:33:1
+returns-2 : tie.Need-returns-2
+returns-2 c = let a = c .before .before .before .before .before .args in record {
+  on = c .next-unused .ensures .0;
+  full = λ l. ap (usedb (a .part .ranks) (a .z)) (sym (c .before .before .before .rank-room .ensures)) ∙ sym (c .before .before .is-used .ensures) ∙ not-false _ (c .before .if1 .left);
+  over = c .next-unused .ensures .1;
+}
+
+pub next-rank-spec : {M : Type 1} → statement M
+next-rank-spec =
+    tie.close (tie.spec rank-room-requires is-used-requires returns next-unused-requires returns-2)
