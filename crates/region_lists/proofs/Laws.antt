@@ -4,7 +4,7 @@ pub mod Listed
 pub mod ListedNumbers
 pub mod ListRecords
 pub mod ListOrder
-pub mod SameNext
+pub mod NoFurther
 pub mod Agreeing
 pub mod NextRows
 pub mod Stretch

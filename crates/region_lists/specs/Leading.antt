@@ -1,10 +1,12 @@
--- What an edge reads of a row, a row that it was followed from before, and where the rows of a location start, for the check of region lists. Assumes nothing.
-use Prim.Native.Nat.{ℕ, _≤_, _<_}
+-- Whether an edge leads no further from a row than from another, a row that it was followed from before, and where the rows of a location start:
+-- for the check of region lists. Assumes nothing.
+use Prim.Native.Nat.{ℕ, _+_, _*_, _≤_, _<_, Ordering·lt, Ordering·gt}
 use mathlib.Core.Path.{_≡_}
-use mathlib.Core.Bool.{Bool, true, _&&_}
+use mathlib.Core.Bool.{Bool, true, cond, not, _&&_, _||_}
 use mathlib.Core.List.{List}
 use lib.ListN.{getD}
-use lib.Dec.{eqb}
+use lib.Dec.{eqb, leb, ltb}
+use Rattle.automata.specs.Comparison.{answer}
 use Rattle.automata.specs.Clocks.{at, allb}
 use Rattle.automata.specs.Row.{Row}
 use Rattle.automata.specs.Edge.{Action, keep, constant, clock, idle, Edge}
@@ -18,15 +20,41 @@ use Rattle.region_lists.specs.Listed.{listed-row}
 unfoldable pub agreeb : Row → Row → ℕ → Bool
 agreeb r s z = eqb (at (r .intervals) z) (at (s .intervals) z) && eqb (at (r .ranks) z) (at (s .ranks) z)
 
--- .. those of the clock that the update of clock z reads
-abbrev pub readsb : Row → Row → ℕ → Action → Bool
-readsb r s z keep = agreeb r s z
-readsb r s z (constant k) = true
-readsb r s z (clock y up down) = agreeb r s y
+-- a clock in interval i, plus up less down, is below 0: every new value is above it
+abbrev pub underb : ℕ → ℕ → ℕ → Bool
+underb i up down = ltb (i + 2 * up) (2 * down)
 
--- .. those of every clock that the edge reads, for n clocks
-unfoldable pub reads-same : ℕ → Edge → Row → Row → Bool
-reads-same n e r s = allb n (λ (z : ℕ). readsb r s z (getD (e .updates) z idle .action))
+-- .. is at the top of a clock with bound b or past it: every new interval but the top is below it, and at the top any order can be had
+abbrev pub overb : ℕ → ℕ → ℕ → ℕ → Bool
+overb b i up down = leb (2 * b + 1 + 2 * down) (i + 2 * up)
+
+-- from intervals i and k it is beyond the same end of all that a clock with bound b can be: no new value of that clock tells them apart
+unfoldable pub beyondb : ℕ → ℕ → ℕ → ℕ → ℕ → Bool
+beyondb b i k up down = (underb i up down && underb k up down) || (overb b i up down && overb b k up down)
+
+-- clock y is no lower in row r than in row s: it has a greater interval there, or the same one and no lesser rank
+unfoldable pub no-lowerb : Row → Row → ℕ → Bool
+no-lowerb r s y =
+    ltb (at (s .intervals) y) (at (r .intervals) y)
+    || (eqb (at (r .intervals) y) (at (s .intervals) y) && leb (at (s .ranks) y) (at (r .ranks) y))
+
+-- what stands in the comparison to clock y of row r does so to that of row s: what is above the one that is no lower, or below the one that is no
+-- higher. Where both sides are allowed or neither is, an order of the two clocks tells nothing, and they have to be the same
+unfoldable pub ordersb : ℕ → Row → Row → ℕ → Bool
+ordersb cmp r s y =
+    let above = answer cmp Ordering·gt in
+    let below = answer cmp Ordering·lt in
+    cond (above && not below) (no-lowerb r s y) (cond (below && not above) (no-lowerb s r y) (agreeb r s y))
+
+-- the update of clock z, with this comparison, allows nothing from row r that it does not allow from row s
+abbrev pub narrowerb : List ℕ → Row → Row → ℕ → ℕ → Action → Bool
+narrowerb c r s z cmp keep = agreeb r s z
+narrowerb c r s z cmp (constant k) = true
+narrowerb c r s z cmp (clock y up down) = beyondb (at c z) (at (r .intervals) y) (at (s .intervals) y) up down || ordersb cmp r s y
+
+-- .. every clock's update, for n clocks
+unfoldable pub no-further : List ℕ → ℕ → Edge → Row → Row → Bool
+no-further c n e r s = allb n (λ (z : ℕ). narrowerb c r s z (getD (e .updates) z idle .comparison) (getD (e .updates) z idle .action))
 
 -- an edge leaves from the row, and all rows that it leads to from there are in the list
 pub record Inside (c : List ℕ) (rows : List Row) (e : Edge) (r : Row) : Type 0 where

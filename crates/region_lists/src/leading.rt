@@ -19,7 +19,7 @@ use crate::listed::Found;
 use crate::listed::find;
 use crate::listed::row_at;
 use crate::listed::rows_below;
-use crate::reading::reads_same;
+use crate::reading::leads_no_further;
 use crate::reading::slot;
 use regions::edge::Edge;
 use regions::image::is_deterministic;
@@ -71,8 +71,8 @@ fn leads_into(
     find(list, clocks, count, region, hint)
 }
 
-// The same where the guards may fail. The edge is not followed from a region that has the numbers that it reads in common with one that it was
-// followed from before.
+// The same where the guards may fail. The edge is not followed from a region where it leads no further than from one that it was followed from
+// before.
 fn leads_on(
     list: &[u8],
     clocks: Clocks,
@@ -101,7 +101,7 @@ fn leads_on(
             walked: walked,
         };
     }
-    if reads_same(clocks, e, walked, from) {
+    if leads_no_further(clocks, e, from, walked) {
         return Turn {
             inside: true,
             at: hint,
@@ -140,8 +140,47 @@ fn rows_before(list: &[u8], clocks: Clocks, count: usize, location: u8) -> usize
     rows_below(list, clocks, count, least, 2 * count)
 }
 
+// The last region in the edge's source location, where the edge leads from it into the list; or none. Where updates ask for values up to a clock's, it
+// leads the furthest from there, and need not be followed from the others.
+fn last_walked(list: &[u8], clocks: Clocks, count: usize, e: Edge, sole: bool) -> Sought
+    requires { ⌜ Listed clocks (now list) count ⌝ }
+    requires { ⌜ Ascends (listed-rows (clocks .count) (now list) count) ⌝ }
+    requires { ⌜ e .«guard_count» ≤ 8 ⌝ }
+    requires { ⌜ Bounded (bounds-of clocks) (edge-of (clocks .count) e) ⌝ }
+    ensures { λ r. ⌜ Kept (bounds-of clocks) (clocks .count) (listed-rows (clocks .count) (now (list .entry)) count) (edge-of (clocks .count) e) r ⌝ }
+{
+    if sole {
+        return missing();
+    }
+    let greatest = Region {
+        location: e.source,
+        intervals: [65535; 4],
+        ranks: [255; 4],
+    };
+    let end = rows_below(list, clocks, count, greatest, 2 * count);
+    if end == 0 {
+        return missing();
+    }
+    let n = clocks.count as usize;
+    let row = row_at(list, n, end - 1);
+    if row.location != e.source {
+        return missing();
+    }
+    if !row.guards_hold(clocks, e) {
+        return missing();
+    }
+    let found = leads_inside(list, clocks, count, e, row, end);
+    if !found.listed {
+        return missing();
+    }
+    Sought {
+        found: true,
+        region: row,
+    }
+}
+
 // The place of a row that lacks a next row by this edge, or 0. Rows ascend, so those in the edge's source location stand together. The regions
-// that the edge was walked from are kept in slots, by the numbers that it reads: in each slot the last.
+// that the edge was walked from are kept in slots, by the numbers that it asks to be the same: in each slot the last.
 fn lacks_by_edge(list: &[u8], clocks: Clocks, count: usize, e: Edge) -> u16
     requires { ⌜ Listed clocks (now list) count ⌝ }
     requires { ⌜ Ascends (listed-rows (clocks .count) (now list) count) ⌝ }
@@ -151,7 +190,7 @@ fn lacks_by_edge(list: &[u8], clocks: Clocks, count: usize, e: Edge) -> u16
 {
     let n = clocks.count as usize;
     let sole = is_deterministic(clocks, e);
-    let mut walked = [missing(); 64];
+    let mut walked = [last_walked(list, clocks, count, e, sole); 64];
     let mut i = rows_before(list, clocks, count, e.source);
     let mut hint = 2 * count;
     while i < count {
@@ -159,7 +198,7 @@ fn lacks_by_edge(list: &[u8], clocks: Clocks, count: usize, e: Edge) -> u16
         if row.location != e.source {
             return 0;
         }
-        let k = slot(e, row);
+        let k = slot(clocks, e, row);
         let last = walked[k];
         let turn = leads_on(list, clocks, count, e, sole, last, row, hint);
         if !turn.inside {

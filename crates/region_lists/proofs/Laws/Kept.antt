@@ -46,10 +46,14 @@ module _ (c : List ℕ) (n : ℕ) (rows : List Row) (e : Edge) where
   abbrev pub AllKept : List Sought → Type 0
   AllKept walked = (k : ℕ) → Kept c n rows e (getD walked k no-slot)
 
-  pub none-kept : (m : ℕ) (s : Sought) → s ≡ sought none → AllKept (replicate m s)
-  none-kept zero s q k h = never h
-  none-kept (suc m) s q zero h = never (sym (ap (λ (t : Sought). t .found) q) ∙ h)
-  none-kept (suc m) s q (suc k) h = none-kept m s q k h
+  -- where there is none nothing is kept
+  pub none-kept : (s : Sought) → s ≡ sought none → Kept c n rows e s
+  none-kept s q h = never (sym (ap (λ (t : Sought). t .found) q) ∙ h)
+
+  pub all-kept : (m : ℕ) (s : Sought) → Kept c n rows e s → AllKept (replicate m s)
+  all-kept zero s kept k = λ h. never h
+  all-kept (suc m) s kept zero = kept
+  all-kept (suc m) s kept (suc k) = all-kept m s kept k
 
   pub one-kept : (walked : List Sought) → AllKept walked → (k : ℕ) (s : Sought) → Kept c n rows e s → AllKept (set walked k s)
   one-kept [] all k s kept j = all j

@@ -4,9 +4,9 @@ use Rattle.automata.proofs.Laws.Lists.{length-from}
 use native.Mathlib.Nat.{zero-add, suc-mul, mul-le-mul-right}
 use native.Mathlib.Decide.{ℕ-discrete}
 use native.Mathlib.Omega.{arith}
-use mathlib.Core.Path.{_≡_, refl, sym, ap, _∙_}
+use mathlib.Core.Path.{_≡_, sym, ap, _∙_}
 use mathlib.Core.Bool.{Bool, true, false}
-use mathlib.Core.List.{List, [], _∷_, map}
+use mathlib.Core.List.{List, map}
 use lib.ListN.{length, getD, take, drop, length-map}
 use Rattle.automata.specs.Row.{Row, Below}
 use Rattle.automata.specs.Closed.{Mem, Ascends}
@@ -30,11 +30,6 @@ row-room s count i len h l = let m : suc i * s ≤ count * s = mul-le-mul-right 
 pub listed-again : (n : ℕ) (list : List ℕ) (i : ℕ) (r : Region) → r ≡ region-of (listed-row n list i) → row-of n r ≡ listed-row n list i
 unfolding listed-row
 listed-again n list i r e = ap (row-of n) e ∙ row-in-back n (take (3 + 2 * n) (drop (4 + i * (3 + 2 * n)) list))
-
--- two of them compared
-pub listed-below : (n : ℕ) (list : List ℕ) (i j : ℕ) (r s : Region) → r ≡ region-of (listed-row n list i) → s ≡ region-of (listed-row n list j)
-    → (b : Bool) → b ≡ belowb (row-of n r) (row-of n s) → belowb (listed-row n list i) (listed-row n list j) ≡ b
-listed-below n list i j r s p q b e = sym (e ∙ (λ k. belowb (listed-again n list i r p k) (listed-again n list j s q k)))
 
 -- rows by number -------------------------------------------------------------------------------------------------------------------
 

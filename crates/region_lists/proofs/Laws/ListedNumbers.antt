@@ -3,14 +3,13 @@ use Prim.Native.Nat.{ℕ, zero, suc, _+_, _*_, _-_, _≤_, _<_}
 use native.Mathlib.Decide.{decLe}
 use native.Mathlib.Omega.{arith}
 use mathlib.Core.Path.{_≡_, refl, sym, ap, _∙_}
-use mathlib.Core.Bool.{Bool, false}
+use mathlib.Core.Bool.{false}
 use mathlib.Core.List.{List, _++_}
-use lib.ListN.{length, getD, take, drop, length-append, List·getD-append}
+use lib.ListN.{length, take, drop, length-append, List·getD-append}
 use lib.Seq.{getD-take, getD-drop, getD-append-add}
 use lib.Dec.{eqb, ltb}
 use borrow.Author.Tests.{le-ltb}
 use Rattle.automata.specs.Clocks.{at, each}
-use Rattle.automata.specs.Row.{Row}
 use Rattle.automata.specs.Checks.{same-row, belowb}
 use Rattle.regions.specs.Order.{numbers, shared}
 use Rattle.regions.specs.Values.{row-of}

@@ -8,7 +8,7 @@ use mathlib.Core.Path.{_≡_, refl, sym, ap, _∙_}
 use mathlib.Core.Bool.{Bool, true, false, _&&_}
 use mathlib.Core.Logic.{_↔_}
 use mathlib.Core.Option.{Option, none, some}
-use mathlib.Core.List.{List, [], _∷_}
+use mathlib.Core.List.{List}
 use lib.ListN.{length, getD}
 use lib.Dec.{eqb}
 use borrow.Author.Tests.{ne-eqb}
@@ -17,12 +17,11 @@ use Rattle.automata.specs.Wait.{wait}
 use Rattle.automata.specs.Edge.{Edge, Bounded}
 use Rattle.automata.specs.Automaton.{Table, blank, edge}
 use Rattle.automata.specs.Closed.{Mem}
-use Rattle.automata.specs.Rows.{isrowb, rows-at, gather}
+use Rattle.automata.specs.Rows.{isrowb, rows-at}
 use Rattle.automata.specs.Successors.{guardsb, placedb, leadsb, held, wait-rows, edge-rows}
 use Rattle.automata.specs.Checks.{every, has}
 use Rattle.regions.specs.Values.{bounds-of, row-of, region-of, sought, found-of, edge-of}
 use Rattle.regions.specs.declared.edge.Edge as edge-code
-use Rattle.regions.specs.declared.region.Region.{Region}
 use Rattle.regions.specs.declared.region.Sought.{Sought}
 use Rattle.automata.proofs.Laws.Tests.{never, and-law, fails, refutes}
 use Rattle.automata.proofs.Laws.Members.{gather-in, gather-out, getD-in, in-getD}
@@ -35,8 +34,8 @@ use Rattle.table_files.proofs.Laws.Reading.{itself}
 use Rattle.table_files.proofs.Laws.Admission.{admission-admitted}
 use Rattle.region_lists.specs.Listed.{listed-row, listed-rows}
 use Rattle.region_lists.specs.RegionList.{by-edges, NextListed}
-use Rattle.region_lists.specs.Leading.{reads-same, Kept}
-use Rattle.region_lists.proofs.Laws.SameNext.{select-none, same-rows}
+use Rattle.region_lists.specs.Leading.{no-further, Kept}
+use Rattle.region_lists.proofs.Laws.NoFurther.{select-none, none-further}
 use Rattle.region_lists.proofs.Laws.Listed.{listed-length, listed-at, in-listed}
 
 -- one region that may be missing ---------------------------------------------------------------------------------------------------------
@@ -105,14 +104,14 @@ edge-blocked c e r p h =
     go true false k l = refl
     go false b k l = refl
 
--- from a row that agrees in what the edge reads with the one that it was walked from last, it leads into the list as from that one
-pub kept-same : (c : List ℕ) (n : ℕ) → length c ≡ n → (rows : List Row) (e : Edge) (walked : Sought) (r : Row) → Kept c n rows e walked
-    → (walked .found && reads-same n e (row-of n (walked .region)) r) ≡ true → r .location ≡ e .source → guardsb r (e .guards) ≡ true
+-- from a row where it leads no further than from one that it was walked from, it leads into the list
+pub kept-no-further : (c : List ℕ) (n : ℕ) → length c ≡ n → (rows : List Row) (e : Edge) (walked : Sought) (r : Row) → Kept c n rows e walked
+    → (walked .found && no-further c n e r (row-of n (walked .region))) ≡ true → r .location ≡ e .source → guardsb r (e .guards) ≡ true
     → true ≡ every (has rows) (edge-rows c e r)
-kept-same c n sized rows e walked r kept same l g =
-    let (f, s) = and-law (walked .found) (reads-same n e (row-of n (walked .region)) r) (itself (walked .found)) (itself (reads-same n e (row-of n (walked .region)) r)) .0 same in
+kept-no-further c n sized rows e walked r kept narrow l g =
+    let (f, s) = and-law (walked .found) (no-further c n e r (row-of n (walked .region))) (itself (walked .found)) (itself (no-further c n e r (row-of n (walked .region)))) .0 narrow in
     let k = kept f in
-    sym (k .inside) ∙ ap (every (has rows)) (same-rows c e (row-of n (walked .region)) r (rw sized s) (k .leaves ∙ sym l) (k .guarded ∙ sym g))
+    sym (none-further c e r (row-of n (walked .region)) (rw sized s) (l ∙ sym (k .leaves)) (g ∙ sym (k .guarded)) (has rows) (k .inside))
 
 -- row by row -----------------------------------------------------------------------------------------------------------------------------
 

@@ -1,20 +1,20 @@
 -- Rows that differ in their ranks alone stand together in an ascending list, and as many as there are rankings are all of them. Assumes nothing.
-use Prim.Native.Nat.{ℕ, zero, suc, _+_, _-_, _≤_, _<_, compare·suc-suc}
+use Prim.Native.Nat.{ℕ, zero, suc, _+_, _-_, _≤_, _<_}
 use native.Mathlib.Decide.{ℕ-discrete}
 use native.Mathlib.Omega.{arith}
 use mathlib.Core.Path.{_≡_, refl, sym, ap, _∙_}
 use mathlib.Core.Bool.{Bool, true, false, cond, _&&_}
-use mathlib.Core.Logic.{_⊎_, inl, inr}
+use mathlib.Core.Logic.{inl, inr}
 use mathlib.Core.List.{List, [], _∷_, _++_}
 use lib.ListN.{length}
 use lib.Dec.{eqb, leb, ltb, leb·suc-suc, leb·suc-zero}
 use lib.Seq.{ext-getD}
-use borrow.Author.Tests.{le-leb, le-ltb}
+use borrow.Author.Tests.{le-leb}
 use Rattle.automata.specs.Clocks.{at}
 use Rattle.automata.specs.Row.{Row, IsRow, Below}
-use Rattle.automata.specs.Closed.{Mem, Ascends}
+use Rattle.automata.specs.Closed.{Ascends}
 use Rattle.automata.specs.Rankings.{open-clocks, rankings}
-use Rattle.automata.specs.Checks.{same, belowb, has}
+use Rattle.automata.specs.Checks.{same, has}
 use Rattle.regions.specs.Order.{numbers, shared}
 use Rattle.regions.specs.Values.{bounds-of, row-of}
 use Rattle.regions.specs.declared.region.Clocks.{Clocks}
@@ -22,7 +22,7 @@ use Rattle.regions.specs.declared.region.Region.{Region}
 use Rattle.automata.proofs.Laws.Tests.{Says, eqb-law, and-law, refutes}
 use Rattle.automata.proofs.Laws.Checks.{same-law, belowb-law, has-law}
 use Rattle.automata.proofs.Laws.Rankings.{all-rankings}
-use Rattle.edge_walk.specs.Choice.{Agree, Candidate, Goal}
+use Rattle.edge_walk.specs.Choice.{Agree, Goal}
 use Rattle.edge_walk.specs.Visit.{AllPass}
 use Rattle.edge_walk.specs.declared.choice.Search.{Search}
 use Rattle.edge_walk.proofs.Laws.Numbers.{interval-number}
@@ -148,14 +148,21 @@ module _ (k : Clocks) (list : List ℕ) (count : ℕ) (L : Listed k list count) 
 
 -- in a visit -----------------------------------------------------------------------------------------------------------------------------
 
+-- a row whose first numbers are a part's, up to the intervals, stands beside it
+pub agree-beside : (n : ℕ) (x : Row) (part : Region) → length (x .intervals) ≡ n → length (row-of n part .intervals) ≡ n → (i : ℕ) → i ≡ 1 + n
+    → Agree i (numbers x) (numbers (row-of n part)) → (x .location ≡ part .location) × (x .intervals ≡ row-of n part .intervals)
+agree-beside n x part g long i e a = (a 0 (omega arith), ext-getD 0 (x .intervals) (row-of n part .intervals) (g ∙ sym long) alike)
+  where
+    alike : (z : ℕ) → z < length (x .intervals) → at (x .intervals) z ≡ at (row-of n part .intervals) z
+    alike z h = sym (interval-number n x g z (omega arith)) ∙ a (suc z) (omega arith) ∙ interval-number n (row-of n part) long z (omega arith)
+
 -- where all intervals are chosen and the list has all rows of these, it has all that the part can become
 pub visit-ranked : (s : Search) (part : Region) (i : ℕ) (rows : List Row) → i ≡ 1 + s .clocks .count → length (bounds-of (s .clocks)) ≡ s .clocks .count
     → length (row-of (s .clocks .count) part .intervals) ≡ s .clocks .count
     → AllRanked (bounds-of (s .clocks)) rows (row-of (s .clocks .count) part) → AllPass (Goal s part i false) (has rows) true
-visit-ranked s part i rows e sized long all = record { passed = λ t x q. all x (q .held .is-row) (q .agrees 0 (omega arith)) (alike x q); noticed = λ h. refl }
+visit-ranked s part i rows e sized long all = record { passed = λ t x q. go x q; noticed = λ h. refl }
   where
-    alike : (x : Row) → Goal s part i false x → x .intervals ≡ row-of (s .clocks .count) part .intervals
-    alike x q =
-        let g : length (x .intervals) ≡ s .clocks .count = q .held .is-row .intervals-length ∙ sized in
-        ext-getD 0 (x .intervals) (row-of (s .clocks .count) part .intervals) (g ∙ sym long)
-        (λ z h. sym (interval-number (s .clocks .count) x g z (omega arith)) ∙ q .agrees (suc z) (omega arith) ∙ interval-number (s .clocks .count) (row-of (s .clocks .count) part) long z (omega arith))
+    go : (x : Row) → Goal s part i false x → has rows x ≡ true
+    go x q =
+        let (d, f) = agree-beside (s .clocks .count) x part (q .held .is-row .intervals-length ∙ sized) long i e (q .agrees) in
+        all x (q .held .is-row) d f

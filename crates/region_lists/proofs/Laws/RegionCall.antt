@@ -11,8 +11,8 @@ use Rattle.automata.specs.Run.{Reached}
 use Rattle.automata.specs.Closed.{Closed}
 use Rattle.table_files.specs.Bytes.{AreBytes}
 use Rattle.table_files.specs.Answer.{Answer, accepted, refused, packed}
-use Rattle.table_files.specs.Reading.{Read, good, bad, carry, answered}
-use Rattle.table_files.specs.Admission.{admitted, admission, record-count, table-of}
+use Rattle.table_files.specs.Reading.{Read, good, bad, carry}
+use Rattle.table_files.specs.Admission.{admitted, admission, table-of}
 use Rattle.table_files.specs.Meaning.{Passes}
 use Rattle.tables.specs.Values.{Describes, Opens}
 use Rattle.table_records.specs.declared.head.Opened.{Opened}

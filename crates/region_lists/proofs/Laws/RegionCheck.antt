@@ -5,12 +5,11 @@ use Rattle.regions.proofs.Laws.Values.{row-region}
 use native.Mathlib.Omega.{arith}
 use mathlib.Core.Path.{_≡_, refl, sym, ap, _∙_}
 use mathlib.Core.Bool.{Bool, true, false}
-use mathlib.Core.Logic.{_⊎_, inl, inr, _↔_}
+use mathlib.Core.Logic.{_⊎_, inl, inr}
 use mathlib.Core.List.{List, [], _∷_, List·Memᴰ·not-nil, List·Memᴰ·append-cases, Memᴰ·append-left, Memᴰ·append-right}
 use lib.ListN.{length, getD, drop, length-append, length-replicate}
 use lib.Seq.{drop-at}
-use borrow.Author.Tests.{leb-true}
-use Rattle.automata.specs.Row.{Row, IsRow}
+use Rattle.automata.specs.Row.{Row}
 use Rattle.automata.specs.Automaton.{Table, clocks}
 use Rattle.automata.specs.Closed.{Mem, Ascends, first-row, RowOf}
 use Rattle.automata.specs.Successors.{wait-rows, next-rows}
@@ -18,20 +17,19 @@ use Rattle.automata.specs.Checks.{every, has}
 use Rattle.regions.specs.Values.{bounds-of, row-of, region-of}
 use Rattle.regions.specs.declared.region.Region.{Region}
 use Rattle.automata.proofs.Laws.Tests.{fails, refutes}
-use Rattle.automata.proofs.Laws.Checks.{has-law, every-law}
 use Rattle.table_files.specs.Bytes.{RL, two}
-use Rattle.table_files.specs.Answer.{Answer, accepted, refused}
-use Rattle.table_files.specs.Reading.{Read, good, bad, carry, require}
+use Rattle.table_files.specs.Answer.{accepted, refused}
+use Rattle.table_files.specs.Reading.{Read, good, carry, require}
 use Rattle.table_files.specs.Admission.{table-of}
 use Rattle.tables.specs.Values.{Describes}
 use Rattle.table_records.specs.declared.head.Head.{Head}
 use Rattle.table_files.proofs.Laws.Reading.{parts, tested, took-record}
-use Rattle.calls.specs.RegionFile.{row-record, region-file, rows-read, rows-of, ascending, none-final, rows-checked, lacking, concluded, judged, Permits}
+use Rattle.calls.specs.RegionFile.{region-file, rows-read, rows-of, ascending, none-final, rows-checked, lacking, concluded, judged, Permits}
 use Rattle.region_lists.specs.Listed.{listed-row, listed-rows, Listed}
 use Rattle.region_lists.specs.RegionList.{Told, passed, by-edges, NextListed}
 use Rattle.calls.proofs.Laws.Rows.{rows-read-law}
 use Rattle.region_lists.proofs.Laws.Listed.{listed-length, listed-in}
-use Rattle.region_lists.proofs.Laws.ListRecords.{was-good, Rows-there, all-there}
+use Rattle.region_lists.proofs.Laws.ListRecords.{was-good, all-there}
 use Rattle.region_lists.proofs.Laws.ListOrder.{passed-at}
 use Rattle.calls.proofs.Laws.Lacking.{getD-any, full, full-law, lacking-law, nothing-lacking}
 use Rattle.calls.proofs.Laws.RegionLists.{ascends}

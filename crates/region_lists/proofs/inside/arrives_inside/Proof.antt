@@ -9,10 +9,6 @@ use Rattle.region_lists.specs.Listed.{listed-rows}
 use borrow.Author.Needs.{needs}
 use Rattle.region_lists.proofs.inside.arrives_inside.Statement.{statement}
 use Rattle.region_lists.proofs.inside.arrives_inside.Tie as tie
-use Rattle.region_lists.proofs.inside.arrives_inside.Reads as reads
-use Rattle.region_lists.proofs.inside.arrives_inside.Lts as lts
-use Rattle.region_lists.proofs.listed.find.Reads as find-reads
-use Rattle.regions.proofs.region.Region.is_region.Reads as is-region-reads
 
 -- the arrays have four numbers each
 bounds : (c : tie.Start) → length (c .args .s .clocks .bounds) ≡ 4

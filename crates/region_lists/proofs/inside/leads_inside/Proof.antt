@@ -10,11 +10,6 @@ use Rattle.region_lists.specs.Listed.{listed-rows}
 use borrow.Author.Needs.{needs}
 use Rattle.region_lists.proofs.inside.leads_inside.Statement.{statement}
 use Rattle.region_lists.proofs.inside.leads_inside.Tie as tie
-use Rattle.region_lists.proofs.inside.leads_inside.Reads as reads
-use Rattle.region_lists.proofs.inside.leads_inside.Lts as lts
-use Rattle.region_lists.proofs.inside.all_inside.Reads as all-inside-reads
-use Rattle.regions.proofs.placing.Moves.all_permit.Reads as all-permit-reads
-use Rattle.regions.proofs.region.Region.moves.Reads as moves-reads
 
 -- the arrays have four numbers each
 bounds : (c : tie.Start) → length (c .args .clocks .bounds) ≡ 4

@@ -5,7 +5,7 @@ use Prim.Native.Nat.{_-_, _≤_}
 use native.Mathlib.Omega.{arith}
 use Rattle.regions.specs.Values.{bounds-of, edge-of}
 use Rattle.automata.specs.Successors.{edge-rows}
-use Rattle.region_lists.proofs.Laws.Kept.{AllKept, none-kept, one-kept}
+use Rattle.region_lists.proofs.Laws.Kept.{AllKept, all-kept, one-kept}
 use Rattle.region_lists.proofs.Laws.NextRows.{NextTo, next-on, next-fails, next-all}
 use Rattle.region_lists.proofs.Laws.Listed.{row-room, listed-again}
 use Rattle.region_lists.proofs.Laws.Stretch.{stretch-begins, stretch-ends}
@@ -15,14 +15,6 @@ use Rattle.automata.specs.Checks.{every, has}
 use borrow.Author.Needs.{needs}
 use Rattle.region_lists.proofs.leading.lacks_by_edge.Statement.{statement}
 use Rattle.region_lists.proofs.leading.lacks_by_edge.Tie as tie
-use Rattle.region_lists.proofs.leading.lacks_by_edge.Reads as reads
-use Rattle.region_lists.proofs.leading.lacks_by_edge.Lts as lts
-use Rattle.region_lists.proofs.leading.leads_on.Reads as leads-on-reads
-use Rattle.region_lists.proofs.leading.rows_before.Reads as rows-before-reads
-use Rattle.region_lists.proofs.listed.row_at.Reads as row-at-reads
-use Rattle.region_lists.proofs.reading.slot.Reads as slot-reads
-use Rattle.regions.proofs.image.is_deterministic.Reads as is-deterministic-reads
-use Rattle.regions.proofs.region.missing.Reads as missing-reads
 
 abbrev Inv-loop : tie.InvT-loop
 Inv-loop list clocks count e n sole walked₀ i₀ hint₀ walked i hint = NextTo (edge-rows (bounds-of clocks) (edge-of (clocks .count) e)) (clocks .count) list count i × AllKept (bounds-of clocks) (clocks .count) (listed-rows (clocks .count) list count) (edge-of (clocks .count) e) walked × (i₀ ≤ i)
@@ -39,8 +31,8 @@ is-deterministic-requires : tie.Need-is-deterministic-requires Inv-loop μ-loop
 is-deterministic-requires c κs = search needs
 
 -- src/leading.rt:154:23
-missing-requires : tie.Need-missing-requires Inv-loop μ-loop
-missing-requires c κs = search needs
+last-walked-requires : tie.Need-last-walked-requires Inv-loop μ-loop
+last-walked-requires c κs = let p = c .before .before .before .pre in (p .0, (p .1 .0, (p .1 .1 .0, p .1 .1 .1)))
 
 -- src/leading.rt:155:9
 rows-before-requires : tie.Need-rows-before-requires Inv-loop μ-loop
@@ -52,7 +44,7 @@ mul-hint c = let s = c .before .before .before .before .before .pre .0 .short in
 
 -- src/leading.rt:157:5
 loop-holds : tie.Need-loop-holds Inv-loop μ-loop
-loop-holds c = let a = c .before .before .before .before .before .args in let p = c .before .before .before .before .before .pre in let k = a .clocks .count in let e = edge-of k (a .e) in let rows = listed-rows k (now (a .list)) (a .count) in (stretch-begins k (now (a .list)) (a .count) (bounds-of (a .clocks)) e _ (c .rows-before .ensures), none-kept (bounds-of (a .clocks)) k rows e 64 (c .before .missing .result) (c .before .missing .ensures), search needs)
+loop-holds c = let a = c .before .before .before .before .before .args in let p = c .before .before .before .before .before .pre in let k = a .clocks .count in let e = edge-of k (a .e) in let rows = listed-rows k (now (a .list)) (a .count) in (stretch-begins k (now (a .list)) (a .count) (bounds-of (a .clocks)) e _ (c .rows-before .ensures), all-kept (bounds-of (a .clocks)) k rows e 64 _ (c .before .last-walked .ensures), search needs)
 
 -- src/leading.rt:158:13
 row-at-requires : tie.Need-row-at-requires Inv-loop μ-loop
@@ -122,7 +114,7 @@ lacks-by-edge-spec =
     μ-loop
     cast-n
     is-deterministic-requires
-    missing-requires
+    last-walked-requires
     rows-before-requires
     mul-hint
     loop-holds

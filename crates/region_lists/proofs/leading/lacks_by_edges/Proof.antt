@@ -7,10 +7,6 @@ use Rattle.region_lists.proofs.Laws.NextRows.{EdgesTo, edges-begin, edg
 use borrow.Author.Needs.{needs}
 use Rattle.region_lists.proofs.leading.lacks_by_edges.Statement.{statement}
 use Rattle.region_lists.proofs.leading.lacks_by_edges.Tie as tie
-use Rattle.region_lists.proofs.leading.lacks_by_edges.Reads as reads
-use Rattle.region_lists.proofs.leading.lacks_by_edges.Lts as lts
-use Rattle.region_lists.proofs.leading.lacks_by_edge.Reads as lacks-by-edge-reads
-use Rattle.tables.proofs.admission.edge_at.Reads as edge-at-reads
 
 abbrev Inv-loop : tie.InvT-loop
 Inv-loop table head list count clocks k₀ k = EdgesTo (table-of table) (listed-rows (head .clocks .count) list count) k

@@ -4,14 +4,8 @@ use Rattle.automata.specs.Checks.{has}
 use borrow.Author.Tests.{not-true, not-false}
 use mathlib.Core.Path.{sym, _∙_}
 use denote.Ref.{now}
-use borrow.Author.Needs.{needs}
 use Rattle.region_lists.proofs.leading.leads_into.Statement.{statement}
 use Rattle.region_lists.proofs.leading.leads_into.Tie as tie
-use Rattle.region_lists.proofs.leading.leads_into.Reads as reads
-use Rattle.region_lists.proofs.leading.leads_into.Lts as lts
-use Rattle.region_lists.proofs.inside.leads_inside.Reads as leads-inside-reads
-use Rattle.region_lists.proofs.listed.find.Reads as find-reads
-use Rattle.regions.proofs.region.Region.image.Reads as image-reads
 
 -- src/leading.rt:61:9
 leads-inside-requires : tie.Need-leads-inside-requires

@@ -1,18 +1,11 @@
-use Rattle.region_lists.proofs.Laws.NextRows.{edge-blocked, kept-same}
+use Rattle.region_lists.proofs.Laws.NextRows.{edge-blocked, kept-no-further}
 use Rattle.regions.specs.Values.{row-of, edge-of}
 use Rattle.region_lists.specs.Listed.{listed-rows}
-use Rattle.automata.specs.Checks.{has}
 use borrow.Author.Tests.{not-true, not-false}
 use mathlib.Core.Path.{sym, _∙_}
 use denote.Ref.{now}
-use borrow.Author.Needs.{needs}
 use Rattle.region_lists.proofs.leading.leads_on.Statement.{statement}
 use Rattle.region_lists.proofs.leading.leads_on.Tie as tie
-use Rattle.region_lists.proofs.leading.leads_on.Reads as reads
-use Rattle.region_lists.proofs.leading.leads_on.Lts as lts
-use Rattle.region_lists.proofs.leading.leads_into.Reads as leads-into-reads
-use Rattle.region_lists.proofs.reading.reads_same.Reads as reads-same-reads
-use Rattle.regions.proofs.region.Region.guards_hold.Reads as guards-hold-reads
 
 -- src/leading.rt:97:9
 guards-hold-requires : tie.Need-guards-hold-requires
@@ -23,12 +16,12 @@ returns : tie.Need-returns
 returns c = let a = c .before .before .before .args in let p = c .before .before .before .pre in let k = a .clocks .count in let e = edge-of k (a .e) in let r = row-of k (a .from) in let rows = listed-rows k (now (a .list)) (a .count) in (edge-blocked _ e r _ (sym (c .before .guards-hold .ensures) ∙ not-true _ (c .if1 .taken)), p .1 .1 .1 .1 .1 .0)
 
 -- src/leading.rt:104:8
-reads-same-requires : tie.Need-reads-same-requires
-reads-same-requires c κs = let p = c .before .before .before .pre in (p .0 .few, (p .0 .sized, p .1 .1 .1 .0))
+leads-no-further-requires : tie.Need-leads-no-further-requires
+leads-no-further-requires c κs = let p = c .before .before .before .pre in (p .0 .few, (p .0 .sized, p .1 .1 .1 .0))
 
 -- src/leading.rt:105:9
 returns-2 : tie.Need-returns-2
-returns-2 c = let a = c .before .before .before .before .before .args in let p = c .before .before .before .before .before .pre in let k = a .clocks .count in let e = edge-of k (a .e) in let r = row-of k (a .from) in let rows = listed-rows k (now (a .list)) (a .count) in (kept-same _ _ (p .0 .sized) rows e (a .walked) r (p .1 .1 .1 .1 .1 .0) (sym (c .before .reads-same .ensures) ∙ c .if2 .taken) (p .1 .1 .1 .1 .1 .1 .1) (sym (c .before .before .before .guards-hold .ensures) ∙ not-false _ (c .before .before .if1 .left)), p .1 .1 .1 .1 .1 .0)
+returns-2 c = let a = c .before .before .before .before .before .args in let p = c .before .before .before .before .before .pre in let k = a .clocks .count in let e = edge-of k (a .e) in let r = row-of k (a .from) in let rows = listed-rows k (now (a .list)) (a .count) in (kept-no-further _ _ (p .0 .sized) rows e (a .walked) r (p .1 .1 .1 .1 .1 .0) (sym (c .before .leads-no-further .ensures) ∙ c .if2 .taken) (p .1 .1 .1 .1 .1 .1 .1) (sym (c .before .before .before .guards-hold .ensures) ∙ not-false _ (c .before .before .if1 .left)), p .1 .1 .1 .1 .1 .0)
 
 -- src/leading.rt:111:9
 leads-into-requires : tie.Need-leads-into-requires
@@ -48,7 +41,7 @@ leads-on-spec =
     (tie.spec
     guards-hold-requires
     returns
-    reads-same-requires
+    leads-no-further-requires
     returns-2
     leads-into-requires
     returns-3

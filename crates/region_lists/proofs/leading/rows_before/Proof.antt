@@ -4,9 +4,6 @@ use native.Mathlib.Omega.{arith}
 use borrow.Author.Needs.{needs}
 use Rattle.region_lists.proofs.leading.rows_before.Statement.{statement}
 use Rattle.region_lists.proofs.leading.rows_before.Tie as tie
-use Rattle.region_lists.proofs.leading.rows_before.Reads as reads
-use Rattle.region_lists.proofs.leading.rows_before.Lts as lts
-use Rattle.region_lists.proofs.listed.rows_below.Reads as rows-below-reads
 
 -- src/leading.rt:140:44
 mul-rows-below : tie.Need-mul-rows-below

@@ -9,10 +9,6 @@ use native.Mathlib.Omega.{arith}
 use borrow.Author.Needs.{needs}
 use Rattle.region_lists.proofs.list_order.first_final.Statement.{statement}
 use Rattle.region_lists.proofs.list_order.first_final.Tie as tie
-use Rattle.region_lists.proofs.list_order.first_final.Reads as reads
-use Rattle.region_lists.proofs.list_order.first_final.Lts as lts
-use Rattle.region_lists.proofs.listed.location_at.Reads as location-at-reads
-use Rattle.tables.proofs.admission.is_final.Reads as is-final-reads
 
 abbrev Inv-loop : tie.InvT-loop
 Inv-loop table head list count n i₀ i = NoneFinalTo n list count (table-of table) i

@@ -10,10 +10,6 @@ use native.Mathlib.Omega.{arith}
 use borrow.Author.Needs.{needs}
 use Rattle.region_lists.proofs.list_order.first_unordered.Statement.{statement}
 use Rattle.region_lists.proofs.list_order.first_unordered.Tie as tie
-use Rattle.region_lists.proofs.list_order.first_unordered.Reads as reads
-use Rattle.region_lists.proofs.list_order.first_unordered.Lts as lts
-use Rattle.region_lists.proofs.listed.row_at.Reads as row-at-reads
-use Rattle.region_lists.proofs.listed.row_is_below.Reads as row-is-below-reads
 
 abbrev Inv-loop : tie.InvT-loop
 Inv-loop list count n i₀ i = OrderedTo n list count i

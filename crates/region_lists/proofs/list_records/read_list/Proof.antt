@@ -5,11 +5,6 @@ use Rattle.region_lists.proofs.Laws.ListRecords.{few-bytes, head-missin
 use borrow.Author.Needs.{needs}
 use Rattle.region_lists.proofs.list_records.read_list.Statement.{statement}
 use Rattle.region_lists.proofs.list_records.read_list.Tie as tie
-use Rattle.region_lists.proofs.list_records.read_list.Reads as reads
-use Rattle.region_lists.proofs.list_records.read_list.Lts as lts
-use Rattle.region_lists.proofs.list_records.read_rows.Reads as read-rows-reads
-use Rattle.table_records.proofs.record.record.Reads as record-reads
-use Rattle.table_records.proofs.record.two_bytes.Reads as two-bytes-reads
 
 -- src/list_records.rt:57:9
 record-requires : tie.Need-record-requires

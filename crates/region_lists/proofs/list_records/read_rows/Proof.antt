@@ -2,17 +2,13 @@ use Rattle.region_lists.proofs.Laws.ListRecords.{told-good, told-bad}
 use native.Mathlib.Omega.{arith}
 use denote.Ref.{now}
 use Prim.Native.Nat.{ℕ, _+_, _*_, _-_}
-use mathlib.Core.Path.{_≡_, refl, ap}
+use mathlib.Core.Path.{ap}
 use Rattle.table_files.specs.Admission.{table-of}
-use Rattle.region_lists.specs.RegionList.{Told}
 use Rattle.rows.proofs.Laws.RowRecords.{reads-good, reads-bad}
 use Rattle.region_lists.proofs.Laws.ListRecords.{RowsSoFar, rows-begin, rows-on, rows-refused, rows-all}
 use borrow.Author.Needs.{needs}
 use Rattle.region_lists.proofs.list_records.read_rows.Statement.{statement}
 use Rattle.region_lists.proofs.list_records.read_rows.Tie as tie
-use Rattle.region_lists.proofs.list_records.read_rows.Reads as reads
-use Rattle.region_lists.proofs.list_records.read_rows.Lts as lts
-use Rattle.rows.proofs.row.read_row.Reads as read-row-reads
 
 abbrev Inv-loop : tie.InvT-loop
 Inv-loop table head list count size at₀ i₀ at i = RowsSoFar (table-of table) list count at i

@@ -1,13 +1,8 @@
 use Rattle.region_lists.proofs.Laws.Listed.{row-room, all-below, found}
 use native.Mathlib.Omega.{arith}
-use denote.Ref.{now}
 use borrow.Author.Needs.{needs}
 use Rattle.region_lists.proofs.listed.find.Statement.{statement}
 use Rattle.region_lists.proofs.listed.find.Tie as tie
-use Rattle.region_lists.proofs.listed.find.Reads as reads
-use Rattle.region_lists.proofs.listed.find.Lts as lts
-use Rattle.region_lists.proofs.listed.row_is.Reads as row-is-reads
-use Rattle.region_lists.proofs.listed.rows_below.Reads as rows-below-reads
 
 -- src/listed.rt:123:9
 rows-below-requires : tie.Need-rows-below-requires

@@ -3,8 +3,6 @@ use denote.Ref.{now}
 use borrow.Author.Needs.{needs}
 use Rattle.region_lists.proofs.listed.location_at.Statement.{statement}
 use Rattle.region_lists.proofs.listed.location_at.Tie as tie
-use Rattle.region_lists.proofs.listed.location_at.Reads as reads
-use Rattle.region_lists.proofs.listed.location_at.Lts as lts
 
 -- src/listed.rt:32:23
 mul-result : tie.Need-mul-result

@@ -1,12 +1,8 @@
-use mathlib.Core.Path.{_∙_}
 use Rattle.region_lists.specs.Listed.{listed-row}
 use Rattle.table_files.proofs.Laws.Records.{span}
 use borrow.Author.Needs.{needs}
 use Rattle.region_lists.proofs.listed.row_at.Statement.{statement}
 use Rattle.region_lists.proofs.listed.row_at.Tie as tie
-use Rattle.region_lists.proofs.listed.row_at.Reads as reads
-use Rattle.region_lists.proofs.listed.row_at.Lts as lts
-use Rattle.rows.proofs.row.region_in.Reads as region-in-reads
 
 -- src/listed.rt:19:20
 mul-size : tie.Need-mul-size

@@ -1,14 +1,11 @@
 use Rattle.region_lists.proofs.Laws.ListedNumbers.{listed-same}
 use lib.Dec.{eqb}
 use Prim.Native.Nat.{ℕ, _+_, _*_}
-use mathlib.Core.Path.{_≡_, sym, ap, _∙_}
+use mathlib.Core.Path.{ap, _∙_}
 use denote.Ref.{now}
 use borrow.Author.Needs.{needs}
 use Rattle.region_lists.proofs.listed.row_is.Statement.{statement}
 use Rattle.region_lists.proofs.listed.row_is.Tie as tie
-use Rattle.region_lists.proofs.listed.row_is.Reads as reads
-use Rattle.region_lists.proofs.listed.row_is.Lts as lts
-use Rattle.region_lists.proofs.listed.shared_with.Reads as shared-with-reads
 
 -- src/listed.rt:65:5
 shared-with-requires : tie.Need-shared-with-requires

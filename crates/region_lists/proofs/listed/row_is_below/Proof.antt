@@ -1,14 +1,8 @@
 use Rattle.region_lists.proofs.Laws.ListedNumbers.{listed-is-below, listed-not-below}
-use mathlib.Core.Path.{_≡_, sym, ap, _∙_}
 use denote.Ref.{now}
 use borrow.Author.Needs.{needs}
 use Rattle.region_lists.proofs.listed.row_is_below.Statement.{statement}
 use Rattle.region_lists.proofs.listed.row_is_below.Tie as tie
-use Rattle.region_lists.proofs.listed.row_is_below.Reads as reads
-use Rattle.region_lists.proofs.listed.row_is_below.Lts as lts
-use Rattle.region_lists.proofs.listed.shared_with.Reads as shared-with-reads
-use Rattle.rows.proofs.row.wide.Reads as wide-reads
-use Rattle.regions.proofs.region.Region.number.Reads as number-reads
 
 -- src/listed.rt:51:9
 shared-with-requires : tie.Need-shared-with-requires

@@ -5,9 +5,6 @@ use Rattle.region_lists.proofs.Laws.Ranked.{listed-beside}
 use borrow.Author.Needs.{needs}
 use Rattle.region_lists.proofs.listed.row_is_beside.Statement.{statement}
 use Rattle.region_lists.proofs.listed.row_is_beside.Tie as tie
-use Rattle.region_lists.proofs.listed.row_is_beside.Reads as reads
-use Rattle.region_lists.proofs.listed.row_is_beside.Lts as lts
-use Rattle.region_lists.proofs.listed.shared_with.Reads as shared-with-reads
 
 -- src/listed.rt:84:9
 shared-with-requires : tie.Need-shared-with-requires

@@ -3,15 +3,11 @@ use Rattle.region_lists.specs.Listed.{listed-row}
 use Rattle.regions.specs.Values.{row-of}
 use native.Mathlib.Omega.{arith}
 use Prim.Native.Nat.{_-_}
-use mathlib.Core.Path.{_≡_, sym, ap, _∙_}
+use mathlib.Core.Path.{sym, _∙_}
 use denote.Ref.{now}
 use borrow.Author.Needs.{needs}
 use Rattle.region_lists.proofs.listed.rows_below.Statement.{statement}
 use Rattle.region_lists.proofs.listed.rows_below.Tie as tie
-use Rattle.region_lists.proofs.listed.rows_below.Reads as reads
-use Rattle.region_lists.proofs.listed.rows_below.Lts as lts
-use Rattle.region_lists.proofs.listed.guess.Reads as guess-reads
-use Rattle.region_lists.proofs.listed.row_is_below.Reads as row-is-below-reads
 
 abbrev Inv-loop : tie.InvT-loop
 Inv-loop list count wanted hint n low₀ high₀ low high = Searched (listed-row n list) count (row-of n wanted) low high

@@ -3,17 +3,11 @@ use Rattle.region_lists.specs.Listed.{listed-row}
 use Rattle.regions.proofs.Laws.OrderTests.{Shared, shared-none}
 use Rattle.regions.specs.Order.{numbers}
 use Rattle.regions.specs.Values.{row-of}
-use mathlib.Core.Path.{sym, _∙_}
 use denote.Ref.{now}
-use native.Mathlib.Omega.{arith}
 use Prim.Native.Nat.{_-_, _≤_}
 use borrow.Author.Needs.{needs}
 use Rattle.region_lists.proofs.listed.shared_with.Statement.{statement}
 use Rattle.region_lists.proofs.listed.shared_with.Tie as tie
-use Rattle.region_lists.proofs.listed.shared_with.Reads as reads
-use Rattle.region_lists.proofs.listed.shared_with.Lts as lts
-use Rattle.rows.proofs.row.wide.Reads as wide-reads
-use Rattle.regions.proofs.region.Region.number.Reads as number-reads
 
 abbrev Inv-loop : tie.InvT-loop
 Inv-loop list n i wanted at all j₀ j = (j ≤ all) × Shared (numbers (listed-row n list i)) (numbers (row-of n wanted)) j

@@ -9,12 +9,6 @@ use Rattle.region_lists.proofs.Laws.Ranked.{few-ways, all-ranked}
 use borrow.Author.Needs.{needs}
 use Rattle.region_lists.proofs.ranked.has_all_ranked.Statement.{statement}
 use Rattle.region_lists.proofs.ranked.has_all_ranked.Tie as tie
-use Rattle.region_lists.proofs.ranked.has_all_ranked.Reads as reads
-use Rattle.region_lists.proofs.ranked.has_all_ranked.Lts as lts
-use Rattle.region_lists.proofs.listed.row_is_beside.Reads as row-is-beside-reads
-use Rattle.region_lists.proofs.listed.rows_below.Reads as rows-below-reads
-use Rattle.regions.proofs.region.Region.open_clocks.Reads as open-clocks-reads
-use Rattle.region_lists.proofs.ranked.ways_to_rank.Reads as ways-to-rank-reads
 
 -- src/ranked.rt:47:13
 cast-n : tie.Need-cast-n

@@ -2,8 +2,6 @@ use native.Mathlib.Omega.{arith}
 use Rattle.region_lists.proofs.Laws.Ranked.{ways-one, ways-three, ways-thirteen, ways-most}
 use Rattle.region_lists.proofs.ranked.ways_to_rank.Statement.{statement}
 use Rattle.region_lists.proofs.ranked.ways_to_rank.Tie as tie
-use Rattle.region_lists.proofs.ranked.ways_to_rank.Reads as reads
-use Rattle.region_lists.proofs.ranked.ways_to_rank.Lts as lts
 
 -- src/ranked.rt:22:9
 returns : tie.Need-returns

@@ -2,53 +2,50 @@ use Prim.Native.Nat.{_-_, _≤_, _<_}
 use borrow.Author.Needs.{needs}
 use Rattle.region_lists.proofs.reading.slot.Statement.{statement}
 use Rattle.region_lists.proofs.reading.slot.Tie as tie
-use Rattle.region_lists.proofs.reading.slot.Reads as reads
-use Rattle.region_lists.proofs.reading.slot.Lts as lts
-use Rattle.region_lists.proofs.reading.key.Reads as key-reads
 
 abbrev Inv-loop : tie.InvT-loop
-Inv-loop from e mixed₀ z₀ mixed z = (z ≤ 4) × (mixed < 65536)
+Inv-loop clocks from e mixed₀ z₀ mixed z = (z ≤ 4) × (mixed < 65536)
 
 abbrev μ-loop : tie.MeasureT-loop
-μ-loop from e mixed₀ z₀ mixed z = 4 - z
+μ-loop clocks from e mixed₀ z₀ mixed z = 4 - z
 
--- src/reading.rt:94:5
+-- src/reading.rt:157:5
 loop-holds : tie.Need-loop-holds Inv-loop μ-loop
 loop-holds c = search needs
 
--- src/reading.rt:95:17
+-- src/reading.rt:158:17
 mul-u : tie.Need-mul-u Inv-loop μ-loop
 mul-u c = search needs
 
--- src/reading.rt:95:17
+-- src/reading.rt:158:17
 element-copy-out-u : tie.Need-element-copy-out-u Inv-loop μ-loop
 element-copy-out-u c = search needs
 
--- src/reading.rt:97:18
+-- src/reading.rt:160:18
 mul-mixed : tie.Need-mul-mixed Inv-loop μ-loop
 mul-mixed c = search needs
 
--- src/reading.rt:97:31
+-- src/reading.rt:160:31
 key-requires : tie.Need-key-requires Inv-loop μ-loop
 key-requires c κs = search needs
 
--- src/reading.rt:97:18
+-- src/reading.rt:160:18
 add-mixed : tie.Need-add-mixed Inv-loop μ-loop
 add-mixed c = search needs
 
--- src/reading.rt:98:9
+-- src/reading.rt:161:9
 add-z : tie.Need-add-z Inv-loop μ-loop
 add-z c = search needs
 
--- src/reading.rt:94:5
+-- src/reading.rt:157:5
 loop-less : tie.Need-loop-less Inv-loop μ-loop
 loop-less c = search needs
 
--- src/reading.rt:94:5
+-- src/reading.rt:157:5
 loop-again : tie.Need-loop-again Inv-loop μ-loop
 loop-again c = search needs
 
--- src/reading.rt:89:1
+-- src/reading.rt:152:1
 returns : tie.Need-returns Inv-loop μ-loop
 returns c = search needs
 

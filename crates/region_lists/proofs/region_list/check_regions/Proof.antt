@@ -5,11 +5,6 @@ use Rattle.table_files.proofs.Laws.Bytes.{are-bytes}
 use Rattle.region_lists.proofs.Laws.RegionCall.{opened-refused, opened-good, rows-answer, read-refused, read-told, promises}
 use Rattle.region_lists.proofs.region_list.check_regions.Statement.{statement}
 use Rattle.region_lists.proofs.region_list.check_regions.Tie as tie
-use Rattle.region_lists.proofs.region_list.check_regions.Reads as reads
-use Rattle.region_lists.proofs.region_list.check_regions.Lts as lts
-use Rattle.region_lists.proofs.list_records.read_list.Reads as read-list-reads
-use Rattle.region_lists.proofs.region_list.check_rows.Reads as check-rows-reads
-use Rattle.tables.proofs.admission.open.Reads as open-reads
 
 -- src/region_list.rt:67:9
 open-requires : tie.Need-open-requires

@@ -4,14 +4,6 @@ use Rattle.region_lists.proofs.Laws.RegionCheck.{list-listed, list-loca
 use borrow.Author.Needs.{needs}
 use Rattle.region_lists.proofs.region_list.check_rows.Statement.{statement}
 use Rattle.region_lists.proofs.region_list.check_rows.Tie as tie
-use Rattle.region_lists.proofs.region_list.check_rows.Reads as reads
-use Rattle.region_lists.proofs.region_list.check_rows.Lts as lts
-use Rattle.region_lists.proofs.list_order.first_final.Reads as first-final-reads
-use Rattle.region_lists.proofs.list_order.first_unordered.Reads as first-unordered-reads
-use Rattle.region_lists.proofs.listed.is_listed.Reads as is-listed-reads
-use Rattle.region_lists.proofs.leading.lacks_by_edges.Reads as lacks-by-edges-reads
-use Rattle.region_lists.proofs.waiting.lacks_wait.Reads as lacks-wait-reads
-use Rattle.rows.proofs.row.initial_row.Reads as initial-row-reads
 
 -- src/region_list.rt:37:9
 first-unordered-requires : tie.Need-first-unordered-requires

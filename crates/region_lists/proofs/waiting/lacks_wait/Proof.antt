@@ -13,10 +13,6 @@ use native.Mathlib.Omega.{arith}
 use borrow.Author.Needs.{needs}
 use Rattle.region_lists.proofs.waiting.lacks_wait.Statement.{statement}
 use Rattle.region_lists.proofs.waiting.lacks_wait.Tie as tie
-use Rattle.region_lists.proofs.waiting.lacks_wait.Reads as reads
-use Rattle.region_lists.proofs.waiting.lacks_wait.Lts as lts
-use Rattle.region_lists.proofs.listed.row_at.Reads as row-at-reads
-use Rattle.region_lists.proofs.waiting.waits_inside.Reads as waits-inside-reads
 
 abbrev Inv-loop : tie.InvT-loop
 Inv-loop list clocks count n i₀ i = NextTo (wait-rows (bounds-of clocks)) (clocks .count) list count i

@@ -5,10 +5,6 @@ use denote.Ref.{now}
 use borrow.Author.Needs.{needs}
 use Rattle.region_lists.proofs.waiting.waits_inside.Statement.{statement}
 use Rattle.region_lists.proofs.waiting.waits_inside.Tie as tie
-use Rattle.region_lists.proofs.waiting.waits_inside.Reads as reads
-use Rattle.region_lists.proofs.waiting.waits_inside.Lts as lts
-use Rattle.region_lists.proofs.listed.find.Reads as find-reads
-use Rattle.regions.proofs.region.Region.wait.Reads as wait-reads
 
 -- src/waiting.rt:22:9
 wait-requires : tie.Need-wait-requires
