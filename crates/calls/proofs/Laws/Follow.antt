@@ -16,7 +16,7 @@ use Rattle.automata.specs.Successors.{wait-rows, edge-rows}
 use Rattle.automata.proofs.Laws.Tests.{never, eqb-law, ltb-law, or-law}
 use Rattle.automata.proofs.Laws.Successors.{wait-rows-law, wait-rows-ascend, edge-rows-law, edge-rows-ascend}
 use Rattle.table_files.specs.Answer.{Answer, accepted, refused}
-use Rattle.table_files.specs.Reading.{Read, good, bad, _>>=_, end, answered}
+use Rattle.table_files.specs.Reading.{Read, good, bad, end, answered}
 use Rattle.table_files.specs.Admission.{table-of}
 use Rattle.calls.specs.RegionFile.{row-record, row-bytes, rows-bytes}
 use Rattle.calls.specs.Follow.{followed, rows-followed, following, follow-answer, written, follow-buffer}

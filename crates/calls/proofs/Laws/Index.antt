@@ -25,7 +25,6 @@ use Rattle.table_files.specs.TableBytes.{TableOf}
 use Rattle.calls.specs.Meaning.{Small, Reaches, RunListOf, RegionListOf, Lacks, Follows, Written}
 use Rattle.table_files.proofs.Laws.Admission
 use Rattle.table_files.proofs.Laws.TableBytes
-use Rattle.calls.proofs.Laws.Rows
 use Rattle.calls.proofs.Laws.RegionLists
 use Rattle.calls.proofs.Laws.Runs
 use Rattle.calls.proofs.Laws.Follow

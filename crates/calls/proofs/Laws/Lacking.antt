@@ -14,7 +14,6 @@ use Rattle.automata.specs.Checks.{every, has}
 use Rattle.automata.proofs.Laws.Tests.{Says, never}
 use Rattle.automata.proofs.Laws.Members.{getD-in, in-getD}
 use Rattle.automata.proofs.Laws.Checks.{has-law, every-law}
-use Rattle.table_files.specs.Reading.{_>>=_}
 use Rattle.calls.specs.RegionFile.{lacking}
 
 pub not-every : {A : Type 0} (p : A → Bool) (xs : List A) → every p xs ≡ false → (a : A) × Mem a xs × (p a ≡ false)

@@ -14,7 +14,7 @@ use Rattle.automata.specs.Closed.{Mem}
 use Rattle.automata.specs.Rows.{gather}
 use Rattle.automata.proofs.Laws.Lists.{length-each}
 use Rattle.table_files.specs.Bytes.{AreBytes, ST, two, four, two-bytes, four-bytes}
-use Rattle.table_files.specs.Reading.{good, _>>=_}
+use Rattle.table_files.specs.Reading.{good}
 use Rattle.calls.specs.RunFile.{step-record, RunList, move-bytes, run-bytes}
 use Rattle.table_files.specs.Meaning.{Limits}
 use Rattle.calls.specs.Meaning.{Narrow, Reaches}

@@ -20,7 +20,7 @@ use Rattle.table_files.specs.Reading.{Read, good, bad, Reader, carry, done, nex
 use Rattle.table_files.specs.TableFile.{header, location, edge-record, table-file}
 use Rattle.table_files.specs.Admission.{admitted, admission}
 use Rattle.calls.specs.RunFile.{RunList, step-record, run-file, run-checked, run-answer}
-use Rattle.calls.specs.RegionFile.{row-record, region-file, rows-checked, list-outcome, judged, judged-over, Permits}
+use Rattle.calls.specs.RegionFile.{row-record, region-file, rows-checked, list-outcome, judged, judged-over}
 use Rattle.calls.specs.Follow.{rows-followed, following, follow-answer, written, follow-buffer}
 use Rattle.calls.specs.Program.{PrintedFor, Printed}
 use Rattle.table_files.proofs.Laws.Reading.{not-good, parts, between-law}

@@ -1,16 +1,16 @@
 -- The record reader gives what the definitions read: a record, or none where they refuse. Assumes nothing.
 use Prim.Native.Nat.{ℕ, _+_, _-_, _≤_}
 use native.Mathlib.Omega.{arith}
-use mathlib.Core.Path.{_≡_, refl, sym, ap, _∙_}
-use mathlib.Core.Bool.{Bool, true, false, cond}
-use mathlib.Core.Logic.{_⊎_, inl, inr, ⊎-elim}
+use mathlib.Core.Path.{_≡_, refl, ap, _∙_}
+use mathlib.Core.Bool.{Bool, true, false}
+use mathlib.Core.Logic.{_⊎_, inl, inr}
 use mathlib.Core.List.{List, []}
 use lib.ListN.{length, take, drop, length-drop}
 use lib.Seq.{drop-drop, length-take-le}
 use lib.Dec.{leb}
 use borrow.Author.Tests.{leb-true}
 use Rattle.automata.specs.Checks.{same}
-use Rattle.table_files.specs.Reading.{Read, good, bad, carry, next-bytes, require, next-record}
+use Rattle.table_files.specs.Reading.{good, bad, carry, next-bytes, require, next-record}
 use Rattle.table_files.specs.Records.{part-at, record-at}
 use Rattle.table_files.proofs.Laws.Records.{leb-same}
 

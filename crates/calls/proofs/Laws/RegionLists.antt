@@ -18,7 +18,7 @@ use Rattle.automata.proofs.Laws.Successors.{Next, next-rows-law}
 use Rattle.automata.proofs.Laws.Checks.{belowb-law, has-law}
 use Rattle.table_files.specs.Bytes.{AreBytes}
 use Rattle.table_files.specs.Answer.{Answer, accepted, refused}
-use Rattle.table_files.specs.Reading.{Read, good, bad, _>>=_}
+use Rattle.table_files.specs.Reading.{Read, good, bad}
 use Rattle.table_files.specs.Admission.{admitted, admission, table-of}
 use Rattle.calls.specs.RegionFile.{rows-read, rows-of, list-bytes, ascending, none-final, rows-checked, lacking, Outcome, exactly, somewhere, concluded, judged, judged-over, list-outcome, ListAnswer, Permits}
 use Rattle.table_files.specs.Meaning.{Passes}

@@ -15,7 +15,7 @@ use Rattle.automata.specs.Rows.{isrowb}
 use Rattle.automata.proofs.Laws.Ranks.{rank-le}
 use Rattle.automata.proofs.Laws.Rows.{isrowb-law}
 use Rattle.table_files.specs.Bytes.{AreBytes, RL, RW, two, two-bytes}
-use Rattle.table_files.specs.Reading.{good, _>>=_, end}
+use Rattle.table_files.specs.Reading.{good, end}
 use Rattle.calls.specs.RegionFile.{row-in, row-record, region-file, row-bytes, rows-bytes, list-bytes}
 use Rattle.table_files.specs.Meaning.{Limits}
 use Rattle.table_files.proofs.Laws.Bytes.{bytes-append, bytes-before, bytes-after, are-bytes, gather-bytes, byte-next, bytes-next, two-next, each-at}

@@ -14,7 +14,7 @@ use Rattle.automata.specs.Closed.{Mem}
 use Rattle.automata.specs.Rows.{gather}
 use Rattle.table_files.specs.Bytes.{AreBytes, RN, two, two-bytes}
 use Rattle.table_files.specs.Answer.{accepted}
-use Rattle.table_files.specs.Reading.{Read, good, bad, _>>=_, carry, end, answered}
+use Rattle.table_files.specs.Reading.{Read, good, bad, carry, end, answered}
 use Rattle.table_files.specs.Admission.{admitted, table-of}
 use Rattle.calls.specs.RunFile.{step-record, RunList, run-file, move-bytes, run-bytes, run-checked, run-answer}
 use Rattle.table_files.specs.Meaning.{Passes}

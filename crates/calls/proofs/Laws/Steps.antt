@@ -11,7 +11,7 @@ use Rattle.automata.specs.Automaton.{Table, clocks, edge}
 use Rattle.automata.specs.Run.{State, Move, first, after, Step, Run, begin, move}
 use Rattle.automata.specs.Closed.{Mem}
 use Rattle.automata.proofs.Laws.Tests.{Says, eqb-law, and-law, allb-law}
-use Rattle.table_files.specs.Reading.{good, _>>=_}
+use Rattle.table_files.specs.Reading.{good}
 use Rattle.calls.specs.RunFile.{guardedb, allowed-byb, allowedb, steps-taken}
 use Rattle.table_files.proofs.Laws.Reading.{itself, cons-all, tested, goes, passes}
 

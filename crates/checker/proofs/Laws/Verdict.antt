@@ -1,13 +1,13 @@
 -- What the program prints, from the answers. Assumes nothing.
-use Prim.Native.Nat.{ℕ, zero, suc, _≤_, _<_}
+use Prim.Native.Nat.{ℕ}
 use Prim.Native.String.{String}
 use native.Mathlib.Omega.{arith}
-use mathlib.Core.Path.{_≡_, refl, sym, ap, _∙_}
+use mathlib.Core.Path.{_≡_, refl, sym}
 use mathlib.Core.Bool.{Bool, true, false, cond}
 use mathlib.Core.List.{List, [], _∷_}
-use lib.ListN.{length, take, drop}
-use lib.Dec.{leb, eqb}
-use borrow.Author.Tests.{le-leb, lt-leb}
+use lib.ListN.{length, take}
+use lib.Dec.{eqb}
+use borrow.Author.Tests.{le-leb}
 use Rattle.automata.specs.Checks.{same}
 use Rattle.table_files.specs.Bytes.{RN}
 use Rattle.table_files.specs.Answer.{Answer}
@@ -15,7 +15,7 @@ use Rattle.table_files.specs.Records.{part-at, record-at}
 use Rattle.table_files.proofs.Laws.Records.{mark-short}
 use Rattle.calls.specs.RunFile.{run-answer}
 use Rattle.calls.specs.RegionFile.{ListAnswer}
-use Rattle.calls.specs.Program.{printed, PrintedFor, Printed}
+use Rattle.calls.specs.Program.{printed, Printed}
 use Rattle.calls.proofs.Laws.Prefix.{printed-prefix}
 
 -- the record of two bytes is there just if the file begins with the mark

@@ -11,11 +11,10 @@ use lib.ListN.{length, take, drop, length-append, length-drop, take-append-drop}
 use lib.Seq.{take-length, getD-take, length-take-le}
 use borrow.Author.Tests.{le-leb, lt-leb}
 use Rattle.automata.specs.Clocks.{at}
-use Rattle.automata.specs.Row.{Row, IsRow, Below}
-use Rattle.automata.specs.Rows.{rows-at}
+use Rattle.automata.specs.Row.{Row, IsRow}
 use Rattle.automata.specs.Edge.{Edge}
 use Rattle.automata.specs.Wait.{wait}
-use Rattle.automata.specs.Successors.{leadsb, held, wait-rows, edge-rows}
+use Rattle.automata.specs.Successors.{held, wait-rows}
 use Rattle.edge_walk.specs.Walk.{first-above}
 use Rattle.regions.specs.Values.{bounds-of, row-of, edge-of, sought, found-of}
 use Rattle.regions.specs.declared.region.Clocks as clocks-code
@@ -24,8 +23,6 @@ use Rattle.regions.specs.declared.region.Sought.{Sought}
 use Rattle.regions.specs.declared.edge.Edge as edge-code
 use Rattle.automata.proofs.Laws.Tests.{never}
 use Rattle.automata.proofs.Laws.Waiting.{wait-row}
-use Rattle.automata.proofs.Laws.Members.{Sorted, sorted-select}
-use Rattle.automata.proofs.Laws.Rows.{rows-at-sorted}
 use Rattle.automata.proofs.Laws.Successors.{edge-rows-law}
 use Rattle.table_files.specs.Answer.{Answer, accepted, refused}
 use Rattle.calls.specs.RegionFile.{row-bytes, rows-bytes}

@@ -9,13 +9,6 @@ use Rattle.next_regions.proofs.Cases.{asked}
 use borrow.Author.Needs.{needs}
 use Rattle.next_regions.proofs.p5_p6.Statement.{statement}
 use Rattle.next_regions.proofs.p5_p6.Tie as tie
-use Rattle.next_regions.proofs.p5_p6.Reads as reads
-use Rattle.next_regions.proofs.p5_p6.Lts as lts
-use Rattle.io.proofs.write_all.Reads as write-all-reads
-use Rattle.next_regions.proofs.print_next.Reads as print-next-reads
-use Rattle.next_regions.proofs.print_region.Reads as print-region-reads
-use Rattle.next_regions.proofs.unguarded.Reads as unguarded-reads
-use Rattle.regions.proofs.region.Region.wait.Reads as wait-reads
 
 -- src/main.rt:87:22
 slice-aggregate-write-all : tie.Need-slice-aggregate-write-all

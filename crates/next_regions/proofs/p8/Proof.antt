@@ -7,11 +7,6 @@ use Rattle.next_regions.proofs.Cases.{asked}
 use borrow.Author.Needs.{needs}
 use Rattle.next_regions.proofs.p8.Statement.{statement}
 use Rattle.next_regions.proofs.p8.Tie as tie
-use Rattle.next_regions.proofs.p8.Reads as reads
-use Rattle.next_regions.proofs.p8.Lts as lts
-use Rattle.io.proofs.write_all.Reads as write-all-reads
-use Rattle.next_regions.proofs.print_next.Reads as print-next-reads
-use Rattle.next_regions.proofs.unguarded.Reads as unguarded-reads
 
 -- src/main.rt:143:22
 slice-aggregate-write-all : tie.Need-slice-aggregate-write-all

@@ -1,13 +1,7 @@
-use native.Mathlib.Omega.{arith}
 use Prim.Native.Nat.{_-_, _≤_}
 use borrow.Author.Needs.{needs}
 use Rattle.next_regions.proofs.print_next.Statement.{statement}
 use Rattle.next_regions.proofs.print_next.Tie as tie
-use Rattle.next_regions.proofs.print_next.Reads as reads
-use Rattle.next_regions.proofs.print_next.Lts as lts
-use Rattle.next_regions.proofs.print_region.Reads as print-region-reads
-use Rattle.regions.proofs.region.missing.Reads as missing-reads
-use Rattle.edge_walk.proofs.walk.next_region.Reads as next-region-reads
 
 abbrev Inv-loop : tie.InvT-loop
 Inv-loop clocks from e floor₀ found₀ floor found = found ≤ 100

@@ -2,11 +2,6 @@ use Prim.Native.Nat.{_+_, _*_, _-_, _≤_, _<_}
 use borrow.Author.Needs.{needs}
 use Rattle.next_regions.proofs.print_region.Statement.{statement}
 use Rattle.next_regions.proofs.print_region.Tie as tie
-use Rattle.next_regions.proofs.print_region.Reads as reads
-use Rattle.next_regions.proofs.print_region.Lts as lts
-use Rattle.io.proofs.print_decimal.Reads as print-decimal-reads
-use Rattle.io.proofs.write_all.Reads as write-all-reads
-use Rattle.regions.proofs.region.Region.number.Reads as number-reads
 
 abbrev Inv-loop : tie.InvT-loop
 Inv-loop n region i₀ t4 t5 i = (0 < i) × (i ≤ 1 + 2 * n)

@@ -5,9 +5,6 @@ use mathlib.Core.Path.{sym, ap, _∙_}
 use borrow.Author.Needs.{needs}
 use Rattle.probe.proofs.tzelmaruf_follow.Statement.{statement}
 use Rattle.probe.proofs.tzelmaruf_follow.Tie as tie
-use Rattle.probe.proofs.tzelmaruf_follow.Reads as reads
-use Rattle.probe.proofs.tzelmaruf_follow.Lts as lts
-use Rattle.following.proofs.follow.follow.Reads as follow-reads
 
 -- src/lib.rt:14:11
 follow-requires : tie.Need-follow-requires

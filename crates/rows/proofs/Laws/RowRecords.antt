@@ -4,11 +4,10 @@ use Rattle.regions.proofs.Laws.Values.{row-region}
 use native.Mathlib.Omega.{arith}
 use mathlib.Core.Path.{_≡_, refl, sym, ap, _∙_}
 use mathlib.Core.Bool.{Bool, true, false}
-use mathlib.Core.List.{List, [], _++_}
-use lib.ListN.{length, take, drop, replicate, length-replicate, replicate-append-replicate}
-use lib.Seq.{take-at}
+use mathlib.Core.List.{List, _++_}
+use lib.ListN.{length, drop, replicate, length-replicate, replicate-append-replicate}
 use borrow.Author.Tests.{lt-ltb, le-ltb}
-use Rattle.automata.specs.Clocks.{at, each}
+use Rattle.automata.specs.Clocks.{at}
 use Rattle.automata.specs.Row.{Row}
 use Rattle.automata.specs.Automaton.{Table, clocks}
 use Rattle.automata.specs.Closed.{RowOf, first-row}

@@ -1,5 +1,5 @@
 -- One pass over the run list gives the answer of the definitions, which read all steps first. Assumes nothing.
-use Prim.Native.Nat.{ℕ, zero, suc, _+_, _-_}
+use Prim.Native.Nat.{ℕ, zero, suc, _+_}
 use mathlib.Core.Bool.{Bool, true, false}
 use mathlib.Core.List.{List, [], _∷_}
 use mathlib.Core.Path.{_≡_, refl, sym, ap, _∙_}
@@ -9,7 +9,6 @@ use Rattle.automata.specs.Automaton.{Table, edge, final}
 use Rattle.automata.specs.Point.{later}
 use Rattle.automata.specs.Run.{State, Move, first, after}
 use Rattle.table_files.proofs.Laws.Reading.{parts, goes, not-good, each-record}
-use Rattle.table_files.specs.Answer.{refused}
 use Rattle.table_files.specs.Bytes.{two}
 use Rattle.table_files.specs.Reading.{Read, good, bad, Reader, carry, done, require, end, records, answered}
 use Rattle.run_lists.specs.Run.{concluded, steps-from, run-from, counted}

@@ -15,7 +15,7 @@ use Rattle.automata.proofs.Laws.Tests.{leb-law, and-law, allb-law}
 use Rattle.automata.proofs.Laws.Members.{getD-in}
 use Rattle.automata.proofs.Laws.Checks.{every-law}
 use Rattle.table_files.specs.Answer.{accepted}
-use Rattle.table_files.specs.Reading.{Read, good, bad, _>>=_, answered}
+use Rattle.table_files.specs.Reading.{Read, good, bad, answered}
 use Rattle.table_files.specs.Admission.{guard-bounded, constant-bounded, clock-bounded, each-update, edges-bounded, admitted, record-count, admission, table-of, table-read}
 use Rattle.table_files.specs.Meaning.{Limits}
 use Rattle.table_files.proofs.Laws.Reading.{itself, cons-all, parts, tested, not-refused}

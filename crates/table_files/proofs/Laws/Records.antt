@@ -1,5 +1,5 @@
 -- The record reader's tests against the definitions. Assumes nothing.
-use Prim.Native.Nat.{ℕ, zero, suc, _+_, _-_, _≤_, _<_}
+use Prim.Native.Nat.{ℕ, _+_, _-_, _≤_, _<_}
 use native.Mathlib.Omega.{arith}
 use native.Mathlib.Nat.{add-sub-cancel-left}
 use mathlib.Core.Path.{_≡_, refl, sym, ap, _∙_}
@@ -7,10 +7,10 @@ use mathlib.Core.Bool.{true, false, _&&_}
 use mathlib.Core.List.{List, [], _∷_}
 use lib.ListN.{length, take, drop}
 use lib.Dec.{leb, eqb}
-use borrow.Author.Tests.{leb-true, leb-false, le-leb, lt-leb, eq-eqb, ne-eqb}
+use borrow.Author.Tests.{leb-true, leb-false, le-leb, eq-eqb, ne-eqb}
 use Rattle.automata.specs.Clocks.{at}
 use Rattle.automata.specs.Checks.{same}
-use Rattle.automata.proofs.Laws.Tests.{Says, leb-law, fails, says, and-false}
+use Rattle.automata.proofs.Laws.Tests.{leb-law, fails, and-false}
 
 -- two tests of orders that say the same
 pub leb-same : (a b c d : ℕ) → (a ≤ b → c ≤ d) → (c ≤ d → a ≤ b) → leb a b ≡ leb c d

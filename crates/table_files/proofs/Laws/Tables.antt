@@ -1,8 +1,8 @@
 -- What is known of a table that was read. Assumes nothing.
-use Prim.Native.Nat.{ℕ, zero, suc, _+_, _≤_, _<_}
+use Prim.Native.Nat.{ℕ, _+_, _≤_, _<_}
 use Rattle.automata.proofs.Laws.Lists.{length-from}
 use native.Mathlib.Omega.{arith}
-use mathlib.Core.Path.{_≡_, refl, sym, ap, _∙_}
+use mathlib.Core.Path.{_≡_, sym, ap, _∙_}
 use mathlib.Core.Bool.{Bool, true}
 use mathlib.Core.Logic.{_⊎_, inl, inr}
 use mathlib.Core.List.{List, map}
@@ -17,7 +17,7 @@ use Rattle.automata.specs.Checks.{every}
 use Rattle.automata.proofs.Laws.Tests.{eqb-law, leb-law, ltb-law, and-law, or-law}
 use Rattle.automata.proofs.Laws.Members.{getD-in, map-out}
 use Rattle.automata.proofs.Laws.Checks.{every-law}
-use Rattle.table_files.specs.Reading.{good, _>>=_}
+use Rattle.table_files.specs.Reading.{good}
 use Rattle.table_files.specs.TableFile.{Header, header, location, guard-in-range, Fields, fields-in-range, update, edge-record, table-file}
 use Rattle.table_files.specs.Meaning.{Limits}
 use Rattle.table_files.proofs.Laws.Reading.{same-read, itself, parts, tested, between-law, took, each-record}

@@ -6,13 +6,13 @@ use native.Mathlib.Omega.{arith}
 use mathlib.Core.Path.{_≡_, refl, sym, ap, _∙_}
 use mathlib.Core.Bool.{Bool, true, false, _&&_}
 use mathlib.Core.List.{List, [], _∷_, _++_, map, List·Memᴰ·head, List·Memᴰ·tail}
-use lib.ListN.{length, take, set, getD, length-map, length-set}
+use lib.ListN.{length, take, set, getD, length-set}
 use lib.Seq.{length-take-le, getD-take, take-suc-set}
 use Rattle.automata.specs.Clocks.{allb}
 use Rattle.automata.specs.Closed.{Mem}
 use Rattle.automata.specs.Rows.{from}
 use Rattle.automata.specs.Checks.{every}
-use Rattle.automata.proofs.Laws.Tests.{Says, says, allb-law, same-test}
+use Rattle.automata.proofs.Laws.Tests.{says, allb-law, same-test}
 use Rattle.automata.proofs.Laws.Checks.{every-law}
 use Rattle.automata.proofs.Laws.Members.{getD-in, in-getD, from-in, from-out}
 use Rattle.table_files.proofs.Laws.Reading.{itself}

@@ -4,10 +4,6 @@ use mathlib.Core.Path.{ap, _∙_}
 use borrow.Author.Needs.{needs}
 use Rattle.checker.proofs.c.tzelmaruf_admit.Statement.{statement}
 use Rattle.checker.proofs.c.tzelmaruf_admit.Tie as tie
-use Rattle.checker.proofs.c.tzelmaruf_admit.Reads as reads
-use Rattle.checker.proofs.c.tzelmaruf_admit.Lts as lts
-use Rattle.tables.proofs.admission.admission.Reads as admission-reads
-use Rattle.tables.proofs.answer.packed.Reads as packed-reads
 
 -- src/c.rt:29:12
 admission-requires : tie.Need-admission-requires

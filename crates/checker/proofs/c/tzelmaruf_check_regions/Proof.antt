@@ -4,10 +4,6 @@ use Rattle.region_lists.proofs.Laws.RegionCall.{packed-promises}
 use borrow.Author.Needs.{needs}
 use Rattle.checker.proofs.c.tzelmaruf_check_regions.Statement.{statement}
 use Rattle.checker.proofs.c.tzelmaruf_check_regions.Tie as tie
-use Rattle.checker.proofs.c.tzelmaruf_check_regions.Reads as reads
-use Rattle.checker.proofs.c.tzelmaruf_check_regions.Lts as lts
-use Rattle.region_lists.proofs.region_list.check_regions.Reads as check-regions-reads
-use Rattle.tables.proofs.answer.packed.Reads as packed-reads
 
 -- src/c.rt:26:12
 check-regions-requires : tie.Need-check-regions-requires

@@ -4,10 +4,6 @@ use denote.Ref.{now}
 use borrow.Author.Needs.{needs}
 use Rattle.checker.proofs.c.tzelmaruf_check_run.Statement.{statement}
 use Rattle.checker.proofs.c.tzelmaruf_check_run.Tie as tie
-use Rattle.checker.proofs.c.tzelmaruf_check_run.Reads as reads
-use Rattle.checker.proofs.c.tzelmaruf_check_run.Lts as lts
-use Rattle.run_lists.proofs.run.check_run.Reads as check-run-reads
-use Rattle.tables.proofs.answer.packed.Reads as packed-reads
 
 -- src/c.rt:39:12
 check-run-requires : tie.Need-check-run-requires

@@ -1,9 +1,6 @@
-use Rattle.checker.specs.Verdict.{line-of}
 use borrow.Author.Needs.{needs}
 use Rattle.checker.proofs.verdict.empty.Statement.{statement}
 use Rattle.checker.proofs.verdict.empty.Tie as tie
-use Rattle.checker.proofs.verdict.empty.Reads as reads
-use Rattle.checker.proofs.verdict.empty.Lts as lts
 
 -- src/verdict.rt:46:26
 enum-known-a : tie.Need-enum-known-a

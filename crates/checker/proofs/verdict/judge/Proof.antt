@@ -1,19 +1,10 @@
 use Rattle.checker.proofs.Laws.Verdict.{run-told, list-told}
 use Rattle.calls.specs.Program.{printed}
-use Rattle.table_files.specs.Answer.{Answer}
 use Rattle.tables.specs.Values.{answer-of}
-use denote.Ref.{now}
-use mathlib.Core.Path.{_≡_, sym, ap, _∙_}
+use mathlib.Core.Path.{sym, ap, _∙_}
 use borrow.Author.Needs.{needs}
 use Rattle.checker.proofs.verdict.judge.Statement.{statement}
 use Rattle.checker.proofs.verdict.judge.Tie as tie
-use Rattle.checker.proofs.verdict.judge.Reads as reads
-use Rattle.checker.proofs.verdict.judge.Lts as lts
-use Rattle.region_lists.proofs.region_list.check_regions.Reads as check-regions-reads
-use Rattle.run_lists.proofs.run.check_run.Reads as check-run-reads
-use Rattle.checker.proofs.verdict.empty.Reads as empty-reads
-use Rattle.checker.proofs.verdict.is_run.Reads as is-run-reads
-use Rattle.checker.proofs.verdict.reached.Reads as reached-reads
 
 -- src/verdict.rt:56:8
 is-run-requires : tie.Need-is-run-requires

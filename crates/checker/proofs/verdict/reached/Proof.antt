@@ -1,9 +1,6 @@
-use Rattle.checker.specs.Verdict.{line-of}
 use borrow.Author.Needs.{needs}
 use Rattle.checker.proofs.verdict.reached.Statement.{statement}
 use Rattle.checker.proofs.verdict.reached.Tie as tie
-use Rattle.checker.proofs.verdict.reached.Reads as reads
-use Rattle.checker.proofs.verdict.reached.Lts as lts
 
 -- src/verdict.rt:36:26
 enum-known-a : tie.Need-enum-known-a

@@ -3,8 +3,6 @@ use mathlib.Core.Path.{refl}
 use borrow.Author.Needs.{needs}
 use Rattle.rows.proofs.row.byte_of.Statement.{statement}
 use Rattle.rows.proofs.row.byte_of.Tie as tie
-use Rattle.rows.proofs.row.byte_of.Reads as reads
-use Rattle.rows.proofs.row.byte_of.Lts as lts
 
 -- src/row.rt:39:22
 add-result : tie.Need-add-result

@@ -1,8 +1,6 @@
 use Rattle.rows.proofs.Laws.RowRecords.{initial-is}
 use Rattle.rows.proofs.row.initial_row.Statement.{statement}
 use Rattle.rows.proofs.row.initial_row.Tie as tie
-use Rattle.rows.proofs.row.initial_row.Reads as reads
-use Rattle.rows.proofs.row.initial_row.Lts as lts
 
 -- src/row.rt:74:1
 returns : tie.Need-returns

@@ -3,10 +3,6 @@ use mathlib.Core.Path.{_∙_}
 use borrow.Author.Needs.{needs}
 use Rattle.rows.proofs.row.intervals_in.Statement.{statement}
 use Rattle.rows.proofs.row.intervals_in.Tie as tie
-use Rattle.rows.proofs.row.intervals_in.Reads as reads
-use Rattle.rows.proofs.row.intervals_in.Lts as lts
-use Rattle.rows.proofs.row.byte_of.Reads as byte-of-reads
-use Rattle.rows.proofs.row.wide.Reads as wide-reads
 
 -- src/row.rt:49:22
 byte-of-requires : tie.Need-byte-of-requires

@@ -2,9 +2,6 @@ use Rattle.regions.proofs.Laws.Filling.{four-filled}
 use borrow.Author.Needs.{needs}
 use Rattle.rows.proofs.row.ranks_in.Statement.{statement}
 use Rattle.rows.proofs.row.ranks_in.Tie as tie
-use Rattle.rows.proofs.row.ranks_in.Reads as reads
-use Rattle.rows.proofs.row.ranks_in.Lts as lts
-use Rattle.rows.proofs.row.byte_of.Reads as byte-of-reads
 
 -- src/row.rt:61:9
 byte-of-requires : tie.Need-byte-of-requires

@@ -5,12 +5,6 @@ use Rattle.rows.proofs.Laws.RowRecords.{read-missing, whole-record, rea
 use borrow.Author.Needs.{needs}
 use Rattle.rows.proofs.row.read_row.Statement.{statement}
 use Rattle.rows.proofs.row.read_row.Tie as tie
-use Rattle.rows.proofs.row.read_row.Reads as reads
-use Rattle.rows.proofs.row.read_row.Lts as lts
-use Rattle.rows.proofs.row.initial_row.Reads as initial-row-reads
-use Rattle.rows.proofs.row.region_in.Reads as region-in-reads
-use Rattle.regions.proofs.region.Region.is_region.Reads as is-region-reads
-use Rattle.table_records.proofs.record.record.Reads as record-reads
 
 -- src/row.rt:90:13
 cast-n : tie.Need-cast-n

@@ -1,10 +1,6 @@
 use borrow.Author.Needs.{needs}
 use Rattle.rows.proofs.row.region_in.Statement.{statement}
 use Rattle.rows.proofs.row.region_in.Tie as tie
-use Rattle.rows.proofs.row.region_in.Reads as reads
-use Rattle.rows.proofs.row.region_in.Lts as lts
-use Rattle.rows.proofs.row.intervals_in.Reads as intervals-in-reads
-use Rattle.rows.proofs.row.ranks_in.Reads as ranks-in-reads
 
 -- src/row.rt:63:9
 intervals-in-requires : tie.Need-intervals-in-requires

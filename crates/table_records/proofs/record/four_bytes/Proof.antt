@@ -4,9 +4,6 @@ use Prim.Native.Nat.{_+_}
 use borrow.Author.Needs.{needs}
 use Rattle.table_records.proofs.record.four_bytes.Statement.{statement}
 use Rattle.table_records.proofs.record.four_bytes.Tie as tie
-use Rattle.table_records.proofs.record.four_bytes.Reads as reads
-use Rattle.table_records.proofs.record.four_bytes.Lts as lts
-use Rattle.table_records.proofs.record.wide.Reads as wide-reads
 
 -- src/record.rt:67:10
 shared-slice-read-wide : tie.Need-shared-slice-read-wide

@@ -8,8 +8,6 @@ use denote.Ref.{now}
 use borrow.Author.Needs.{needs}
 use Rattle.table_records.proofs.record.is_there.Statement.{statement}
 use Rattle.table_records.proofs.record.is_there.Tie as tie
-use Rattle.table_records.proofs.record.is_there.Reads as reads
-use Rattle.table_records.proofs.record.is_there.Lts as lts
 
 -- src/record.rt:14:21
 sub-result : tie.Need-sub-result

@@ -9,9 +9,6 @@ use denote.Ref.{now}
 use borrow.Author.Needs.{needs}
 use Rattle.table_records.proofs.record.part.Statement.{statement}
 use Rattle.table_records.proofs.record.part.Tie as tie
-use Rattle.table_records.proofs.record.part.Reads as reads
-use Rattle.table_records.proofs.record.part.Lts as lts
-use Rattle.table_records.proofs.record.is_there.Reads as is-there-reads
 
 -- src/record.rt:23:8
 is-there-requires : tie.Need-is-there-requires

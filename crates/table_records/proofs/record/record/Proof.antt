@@ -1,15 +1,10 @@
 use Rattle.table_files.proofs.Laws.Records.{mark-short, mark-first, mark-second, mark-both}
-use Rattle.table_files.specs.Records.{part-at, record-at}
+use Rattle.table_files.specs.Records.{record-at}
 use native.Mathlib.Omega.{arith}
-use mathlib.Core.Path.{_≡_, sym, ap, _∙_}
-use lib.ListN.{length}
 use denote.Ref.{now}
 use borrow.Author.Needs.{needs}
 use Rattle.table_records.proofs.record.record.Statement.{statement}
 use Rattle.table_records.proofs.record.record.Tie as tie
-use Rattle.table_records.proofs.record.record.Reads as reads
-use Rattle.table_records.proofs.record.record.Lts as lts
-use Rattle.table_records.proofs.record.part.Reads as part-reads
 
 -- src/record.rt:33:9
 part-requires : tie.Need-part-requires
