@@ -8,11 +8,11 @@ use std::collections::HashMap;
 use std::process::Command;
 use tzelmaruf_tester::automaton::Update;
 use tzelmaruf_tester::call::{Call, Input};
+use tzelmaruf_tester::explore::closure;
 use tzelmaruf_tester::format::encode_table;
 use tzelmaruf_tester::generate::{seed, Random};
 use tzelmaruf_tester::library::Function;
 use tzelmaruf_tester::needs_checker;
-use tzelmaruf_tester::region::all_rows;
 use tzelmaruf_tester::region_list::encode_regions;
 use tzelmaruf_tester::stack::Stack;
 
@@ -50,13 +50,16 @@ fn used_at_random(function: Function, call: Call, seed: u64) -> usize {
     used.max().unwrap()
 }
 
-/// Four clocks that an edge makes anything of, and all their rows: the deepest walk there is.
-fn used_by_the_deepest_walk() -> usize {
-    let free: Vec<Update> = vec![constant(AtLeast, 0); 4];
-    let automaton = automaton(&[1, 1, 1, 0], &[false], vec![edge(0, 0, &[], &free)]);
-    let rows = all_rows(&automaton, 4_096).expect("the rows fit in a list");
+/// Two clocks that are kept and two that an edge makes anything of, and all rows that are
+/// reached: the kept ones are always equal, so that the visit goes down to the last rank.
+fn used_by_the_deepest_visit() -> usize {
+    let free = constant(AtLeast, 0);
+    let updates = [Update::Keep, Update::Keep, free, free];
+    let automaton = automaton(&[1, 1, 1, 1], &[false], vec![edge(0, 0, &[], &updates)]);
+    let found = closure(&automaton, 4_096);
+    let rows = found.closed_list().expect("the closure fits in a list");
     let mut table = encode_table(&automaton);
-    let mut list = encode_regions(4, &rows);
+    let mut list = encode_regions(4, rows);
     let mut stack = Stack::new(ROOM);
     let (answer, used) = stack.call(Function::CheckRegions, &mut table, &mut list);
     assert_eq!(answer, rows.len() as u32);
@@ -76,7 +79,7 @@ fn the_stack_used_is_within_the_bounds() {
     for (function, call) in calls {
         let mut used = used_at_random(function, call, seed);
         if function == Function::CheckRegions {
-            used = used.max(used_by_the_deepest_walk());
+            used = used.max(used_by_the_deepest_visit());
         }
         let bound = bounds[function.name()];
         println!("{}: {used} bytes used, bound {bound}", function.name());

@@ -187,6 +187,15 @@ fn altered(bounds: &[u8], alter: impl Fn(usize, &mut Update)) -> Automaton {
     automaton
 }
 
+/// The clock's new value stands in the comparison to its own old one plus the offset.
+fn against_itself(own: usize, comparison: Comparison, offset: i16) -> Update {
+    Update::Clock {
+        comparison,
+        clock: own as u8,
+        offset,
+    }
+}
+
 /// The last clock is kept, so that what an edge leads to differs from each row to the next.
 fn last_kept(bounds: &[u8]) -> Automaton {
     altered(bounds, |own, update| {
@@ -199,35 +208,63 @@ fn last_kept(bounds: &[u8]) -> Automaton {
 /// No clock may go down, so that an edge reads all clocks and leads to many rows from each.
 fn none_down(bounds: &[u8]) -> Automaton {
     altered(bounds, |own, update| {
-        *update = Update::Clock {
-            comparison: Comparison::AtLeast,
-            clock: own as u8,
-            offset: 0,
+        *update = against_itself(own, Comparison::AtLeast, 0)
+    })
+}
+
+/// No clock may go up by more than one: as before, and from later rows to more of them.
+fn up_by_one(bounds: &[u8]) -> Automaton {
+    altered(bounds, |own, update| {
+        *update = against_itself(own, Comparison::AtMost, 1)
+    })
+}
+
+/// All clocks are read, but nothing that is read makes a difference.
+fn read_in_vain(bounds: &[u8]) -> Automaton {
+    altered(bounds, |own, update| {
+        *update = against_itself(own, Comparison::Less, 127)
+    })
+}
+
+/// The first two clocks are kept and the others may not go down, so that an edge leads to many rows from each, but not to all that
+/// have the same intervals.
+fn two_kept(bounds: &[u8]) -> Automaton {
+    altered(bounds, |own, update| {
+        *update = match own {
+            0 | 1 => Update::Keep,
+            _ => against_itself(own, Comparison::AtLeast, 0),
         }
     })
 }
 
+/// The list of all rows that are reached.
+fn time_closure(name: &str, effort: Effort, automaton: &Automaton) {
+    let found = closure(automaton, 4_096);
+    let rows = found.closed_list().expect("the closure fits in a list");
+    time_list(name, effort, automaton, rows);
+}
+
 fn time_lists(repetitions: u32) {
     let effort = |calls| Effort { repetitions, calls };
-    let automaton = typical();
-    let found = closure(&automaton, 4_096);
-    let rows = found.closed_list().expect("the closure fits in a list");
-    time_list("typical list", effort(50), &automaton, rows);
+    time_closure("typical list", effort(50), &typical());
     let automaton = deterministic();
     let rows = all_rows(&automaton, 4_096).expect("the rows fit in a list");
     time_list("deterministic updates", effort(2), &automaton, &rows);
-    for bounds in [&[18, 18][..], &[2, 2, 1, 1]] {
-        let automaton = worst(bounds);
-        let rows = all_rows(&automaton, 4_096).expect("the rows fit in a list");
-        time_list("worst list", effort(1), &automaton, &rows);
-    }
-    let bounds = [2, 2, 1, 1];
+    let (narrow, broad) = ([2, 2, 1, 1], [25, 25]);
     for (name, automaton) in [
-        ("last clock kept", last_kept(&bounds)),
-        ("no clock goes down", none_down(&bounds)),
+        ("worst list", worst(&[18, 18])),
+        ("worst list", worst(&narrow)),
+        ("last clock kept", last_kept(&narrow)),
+        ("no clock goes down", none_down(&narrow)),
+        ("no clock goes down", none_down(&broad)),
+        ("up by one at most", up_by_one(&broad)),
+        ("read in vain", read_in_vain(&broad)),
     ] {
         let rows = all_rows(&automaton, 4_096).expect("the rows fit in a list");
         time_list(name, effort(1), &automaton, &rows);
+    }
+    for bounds in [[7, 7, 7, 7], [1, 1, 50, 2]] {
+        time_closure("two clocks kept", effort(1), &two_kept(&bounds));
     }
 }
 
