@@ -4,7 +4,7 @@ mod common;
 use common::*;
 
 use std::fmt;
-use tzelmaruf_tester::automaton::{Automaton, Update};
+use tzelmaruf_tester::automaton::{Automaton, Comparison, Update};
 use tzelmaruf_tester::compare::Comparer;
 use tzelmaruf_tester::explore::{closure, closure_from};
 use tzelmaruf_tester::format::{encode_table, table_records};
@@ -373,6 +373,53 @@ fn edges_to_nearly_all_rows() {
         }
     }
     comparer.finish(&[0, 16, 17]);
+}
+
+/// An update that keeps the clock or compares it with some clock by any comparison.
+fn comparing(random: &mut Random, bounds: &[u8], own: usize) -> Update {
+    if random.once_in(3) {
+        return Update::Keep;
+    }
+    let other = random.below(bounds.len());
+    let least = i16::from(bounds[own]) - i16::from(bounds[other]);
+    let offset = least + random.below(3) as i16;
+    clock(random.pick(&Comparison::ALL), other as u8, offset)
+}
+
+/// Edges that compare clocks with clocks, so that they lead further from some rows
+/// than from others, and each row left out.
+#[test]
+fn edges_that_compare_clocks() {
+    let seed = seed(30_309);
+    println!("seed {seed}: 600 automata");
+    let mut comparer = Comparer::new("edges that compare clocks");
+    for number in 0..600 {
+        let mut random = Random::of_case(seed, number);
+        let bounds = random.pick(&[&[5][..], &[2, 1], &[3, 3], &[1, 1, 1], &[1, 0, 1, 1]]);
+        let edges = (0..1 + random.below(3)).map(|_| {
+            let updates = (0..bounds.len()).map(|own| comparing(&mut random, bounds, own));
+            edge(0, 0, &[], &updates.collect::<Vec<_>>())
+        });
+        let automaton = automaton(bounds, &[false], edges.collect());
+        let starts = [
+            Region::initial(&automaton),
+            rows::row(&mut random, &automaton),
+        ];
+        let found = closure_from(&automaton, &starts, 300);
+        let Some(rows) = found.closed_list() else {
+            continue;
+        };
+        let closed = Closed::new(automaton.clone(), rows.to_vec());
+        let case = format_args!("seed {seed} case {number}");
+        closed.accepted(&mut comparer, case, &closed.rows);
+        for index in 0..closed.rows.len() {
+            let mut without = closed.rows.clone();
+            without.remove(index);
+            let case = format_args!("seed {seed} case {number} without {index}");
+            comparer.regions(case, &closed.table, &closed.list(&without));
+        }
+    }
+    comparer.finish_with_positions(&[0, 16, 17], &[17]);
 }
 
 /// Every spoiled form of the list with the table whole, and the other way round.

@@ -179,8 +179,8 @@ fn last_walked(list: &[u8], clocks: Clocks, count: usize, e: Edge, sole: bool) -
     }
 }
 
-// The place of a row that lacks a next row by this edge, or 0. Rows ascend, so those in the edge's source location stand together. The regions
-// that the edge was walked from are kept in slots, by the numbers that it asks to be the same: in each slot the last.
+// The place of a row that lacks a next row by this edge, or 0. Rows ascend, so those in the edge's source location stand together. The regions that
+// the edge was walked from are kept in slots, by the numbers that it asks to be the same: in each slot the last, at first that of the last row.
 fn lacks_by_edge(list: &[u8], clocks: Clocks, count: usize, e: Edge) -> u16
     requires { ⌜ Listed clocks (now list) count ⌝ }
     requires { ⌜ Ascends (listed-rows (clocks .count) (now list) count) ⌝ }

@@ -1,5 +1,5 @@
-// Whether a region list has all regions that differ in their ranks alone. They stand together in it, so it is enough to count them: nobody has to
-// look each of them up.
+// Whether a region list has all regions that differ in their ranks alone. They stand together in it, so it is enough to count them: none has to be
+// looked up.
 ghost use mathlib.Core.Path.{_≡_};
 ghost use mathlib.Core.Bool.{true};
 ghost use Prim.Native.Nat.{_+_};
