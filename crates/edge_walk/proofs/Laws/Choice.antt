@@ -91,9 +91,6 @@ module _ (s : Search) (ready : Ready s) (four : length (s .clocks .bounds) ≡ 4
 
   -- the choice of number i ---------------------------------------------------------------------------------------------------------------
 
-  pub skips-none : (k : ℕ) → Skips s part i k k
-  skips-none k = record { on = omega arith; over = λ x q a l. l }
-
   -- intervals
   module _ (begun : 0 < i) (h : i ≤ n) where
     abbrev m : Move

@@ -1,7 +1,7 @@
 -- From the code's arrays of four to the definitions' lists of n clocks, and from loops to tests over clocks. Assumes nothing.
 use Prim.Native.Nat.{ℕ, zero, suc, _+_, _-_, _≤_, _<_}
 use Rattle.automata.proofs.Laws.Tests.{and-false}
-use native.Mathlib.Decide.{decLt, ℕ-discrete}
+use native.Mathlib.Decide.{ℕ-discrete}
 use native.Mathlib.Numerals.{add-one}
 use native.Mathlib.Omega.{arith}
 use native.Mathlib.Nat.{le-of-suc-le-suc}
@@ -11,10 +11,9 @@ use mathlib.Core.Option.{Option, none, some}
 use mathlib.Core.List.{List, [], _∷_, _++_, map, append-assoc}
 use lib.ListN.{length, getD, take, drop, set, replicate, length-map, length-append, length-replicate}
 use lib.Dec.{eqb}
-use lib.Seq.{drop-nil, getD-take, length-take-le, set-at, take-at, drop-cons, ext-getD}
+use lib.Seq.{drop-nil, getD-take, length-take-le, set-at, take-at}
 use Rattle.automata.specs.Clocks.{at, each, allb, someb}
 use Rattle.automata.specs.Row.{Row}
-use Rattle.automata.specs.Checks.{every, any}
 use Rattle.regions.specs.Values.{bounds-of, row-of, padded, region-of, sought, found-of}
 use Rattle.regions.specs.declared.region.Clocks.{Clocks}
 use Rattle.automata.proofs.Laws.Lists.{zeros, length-each}
@@ -147,14 +146,6 @@ length-padded xs h = simp (length-append, length-replicate) (omega arith)
 pub take-padded : (n : ℕ) (xs : List ℕ) → length xs ≡ n → take n (padded xs) ≡ xs
 take-padded n xs e = take-at xs (replicate (4 - length xs) 0) n e
 
--- four numbers that are 0 from n on are the first n of them, with zeros after those
-pub padded-take : (n : ℕ) (xs : List ℕ) → n ≤ 4 → length xs ≡ 4 → ((z : ℕ) → n ≤ z → at xs z ≡ 0) → padded (take n xs) ≡ xs
-padded-take n xs h e f = ext-getD 0 (padded (take n xs)) xs (length-padded (take n xs) (rw (length-first n xs h e) h) ∙ sym e) (λ z l. at-padded (take n xs) z ∙ go z (decLt z n))
-  where
-    go : (z : ℕ) → Dec (z < n) → at (take n xs) z ≡ at xs z
-    go z (yes l) = at-take n xs z l
-    go z (no l) = at-out (take n xs) z (rw (length-first n xs h e) (omega arith)) ∙ sym (f z (omega arith))
-
 -- regions -------------------------------------------------------------------------------------------------------------------------------
 
 -- the row of a row's region is the row
@@ -168,30 +159,3 @@ row-region n r p q =
 pub found-sought : (n : ℕ) (o : Option Row) → ((r : Row) → o ≡ some r → (length (r .intervals) ≡ n) × (length (r .ranks) ≡ n)) → found-of n (sought o) ≡ o
 found-sought n none f = refl
 found-sought n (some r) f = ap some (row-region n r (f r refl .0) (f r refl .1))
-
--- tests over a list, as loops that count up ---------------------------------------------------------------------------------------------
-
-module _ {A : Type 0} (p : A → Bool) (xs : List A) (d : A) (i : ℕ) where
-  -- one that passes leaves it to those after it
-  pub every-on : i < length xs → p (getD xs i d) ≡ true → every p (drop i xs) ≡ every p (drop (i + 1) xs)
-  every-on h e = rw (drop-cons xs i d h, e, add-one)
-
-  -- one that fails decides
-  pub every-fails : i < length xs → p (getD xs i d) ≡ false → every p (drop i xs) ≡ false
-  every-fails h e = rw (drop-cons xs i d h, e)
-
-  -- all have passed
-  pub every-end : length xs ≤ i → every p (drop i xs) ≡ true
-  every-end h = rw (drop-out i xs h)
-
-  -- one that fails leaves it to those after it
-  pub any-on : i < length xs → p (getD xs i d) ≡ false → any p (drop i xs) ≡ any p (drop (i + 1) xs)
-  any-on h e = rw (drop-cons xs i d h, e, add-one)
-
-  -- one that passes decides
-  pub any-found : i < length xs → p (getD xs i d) ≡ true → any p (drop i xs) ≡ true
-  any-found h e = rw (drop-cons xs i d h, e)
-
-  -- none has passed
-  pub any-end : length xs ≤ i → any p (drop i xs) ≡ false
-  any-end h = rw (drop-out i xs h)
