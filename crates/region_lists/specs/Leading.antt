@@ -1,6 +1,6 @@
 -- Whether an edge leads no further from a row than from another, a row that it was followed from before, and where the rows of a location start:
 -- for the check of region lists. Assumes nothing.
-use Prim.Native.Nat.{ℕ, _+_, _*_, _≤_, _<_, Ordering·lt, Ordering·gt}
+use Prim.Native.Nat.{ℕ, _+_, _*_, _-_, _≤_, _<_, Ordering·lt, Ordering·gt}
 use mathlib.Core.Path.{_≡_}
 use mathlib.Core.Bool.{Bool, true, cond, not, _&&_, _||_}
 use mathlib.Core.List.{List}
@@ -71,3 +71,14 @@ pub record Starts (n : ℕ) (list : List ℕ) (count l m : ℕ) : Type 0 where
   pub within : m ≤ count
   pub before : (i : ℕ) → i < m → listed-row n list i .location < l
   pub others : (i : ℕ) → m ≤ i → i < count → l ≤ listed-row n list i .location
+
+-- of so many rows those from start to before m are in location l, and the next is not
+pub record Stretch (n : ℕ) (list : List ℕ) (count start l m : ℕ) : Type 0 where
+  pub from : start ≤ m
+  pub within : m ≤ count
+  pub all : (i : ℕ) → start ≤ i → i < m → listed-row n list i .location ≡ l
+  pub next : m < count → listed-row n list m .location ≡ l → ⊥
+
+-- of the numbers from start to before end the one at turn t: from the last on down, or from the first on
+unfoldable pub turned : Bool → ℕ → ℕ → ℕ → ℕ
+turned down start end t = cond down (end - 1 - t) (start + t)

@@ -1,7 +1,8 @@
 // Whether a region list has the rows that the edges lead to from each of its rows: refusal 17.
 ghost use mathlib.Core.Path.{_≡_};
 ghost use mathlib.Core.Bool.{true};
-ghost use Prim.Native.Nat.{_≤_, _<_};
+ghost use Prim.Native.Nat.{_+_, _*_, _≤_, _<_};
+ghost use lib.ListN.{length};
 ghost use Rattle.automata.specs.Row.{IsRow};
 ghost use Rattle.automata.specs.Edge.{Bounded};
 ghost use Rattle.automata.specs.Closed.{Ascends};
@@ -13,12 +14,14 @@ ghost use Rattle.table_files.specs.Admission.{table-of};
 ghost use Rattle.tables.specs.Values.{Describes};
 ghost use Rattle.region_lists.specs.Listed.{listed-rows, Listed};
 ghost use Rattle.region_lists.specs.RegionList.{by-edges, NextListed};
-ghost use Rattle.region_lists.specs.Leading.{Kept, Starts};
+ghost use Rattle.region_lists.specs.Leading.{Kept, Starts, Stretch, turned};
 use crate::inside::leads_inside;
 use crate::listed::Found;
 use crate::listed::find;
+use crate::listed::location_at;
 use crate::listed::row_at;
 use crate::listed::rows_below;
+use crate::reading::falls;
 use crate::reading::leads_no_further;
 use crate::reading::slot;
 use regions::edge::Edge;
@@ -140,47 +143,37 @@ fn rows_before(list: &[u8], clocks: Clocks, count: usize, location: u8) -> usize
     rows_below(list, clocks, count, least, 2 * count)
 }
 
-// The last region in the edge's source location, where the edge leads from it into the list; or none. Where updates ask for values up to a clock's, it
-// leads the furthest from there, and need not be followed from the others.
-fn last_walked(list: &[u8], clocks: Clocks, count: usize, e: Edge, sole: bool) -> Sought
-    requires { ⌜ Listed clocks (now list) count ⌝ }
-    requires { ⌜ Ascends (listed-rows (clocks .count) (now list) count) ⌝ }
-    requires { ⌜ e .«guard_count» ≤ 8 ⌝ }
-    requires { ⌜ Bounded (bounds-of clocks) (edge-of (clocks .count) e) ⌝ }
-    ensures { λ r. ⌜ Kept (bounds-of clocks) (clocks .count) (listed-rows (clocks .count) (now (list .entry)) count) (edge-of (clocks .count) e) r ⌝ }
+// Where the rows of a location end that start at a row.
+fn rows_end(list: &[u8], n: usize, count: usize, start: usize, location: u8) -> usize
+    requires { ⌜ n ≤ 4 ⌝ }
+    requires { ⌜ 4 + count * (3 + 2 * n) ≤ length (now list) ⌝ }
+    requires { ⌜ (start ≤ count) × (count ≤ 4096) ⌝ }
+    ensures { λ r. ⌜ Stretch n (now (list .entry)) count start location r ⌝ }
 {
-    if sole {
-        return missing();
+    let mut i = start;
+    while i < count {
+        if location_at(list, n, i) != location {
+            return i;
+        }
+        i += 1;
     }
-    let greatest = Region {
-        location: e.source,
-        intervals: [65535; 4],
-        ranks: [255; 4],
-    };
-    let end = rows_below(list, clocks, count, greatest, 2 * count);
-    if end == 0 {
-        return missing();
+    i
+}
+
+// Which of the rows from start to before end comes at turn t: from the last one on down if the edge falls, else from the first one on.
+fn row_at_turn(falling: bool, start: usize, end: usize, t: usize) -> usize
+    requires { ⌜ (start + t < end) × (end ≤ 4096) ⌝ }
+    ensures { λ r. ⌜ r ≡ turned falling start end t ⌝ }
+{
+    if falling {
+        return end - 1 - t;
     }
-    let n = clocks.count as usize;
-    let row = row_at(list, n, end - 1);
-    if row.location != e.source {
-        return missing();
-    }
-    if !row.guards_hold(clocks, e) {
-        return missing();
-    }
-    let found = leads_inside(list, clocks, count, e, row, end);
-    if !found.listed {
-        return missing();
-    }
-    Sought {
-        found: true,
-        region: row,
-    }
+    start + t
 }
 
 // The place of a row that lacks a next row by this edge, or 0. Rows ascend, so those in the edge's source location stand together. The regions that
-// the edge was walked from are kept in slots, by the numbers that it asks to be the same: in each slot the last, at first that of the last row.
+// the edge was walked from are kept in slots, by the numbers that it asks to be the same: in each slot the last. It is walked first from where it
+// leads furthest: from the last row where it falls, else from the first.
 fn lacks_by_edge(list: &[u8], clocks: Clocks, count: usize, e: Edge) -> u16
     requires { ⌜ Listed clocks (now list) count ⌝ }
     requires { ⌜ Ascends (listed-rows (clocks .count) (now list) count) ⌝ }
@@ -190,15 +183,16 @@ fn lacks_by_edge(list: &[u8], clocks: Clocks, count: usize, e: Edge) -> u16
 {
     let n = clocks.count as usize;
     let sole = is_deterministic(clocks, e);
-    let mut walked = [last_walked(list, clocks, count, e, sole); 64];
-    let mut i = rows_before(list, clocks, count, e.source);
+    let falling = falls(e);
+    let start = rows_before(list, clocks, count, e.source);
+    let end = rows_end(list, n, count, start, e.source);
+    let mut walked = [missing(); 64];
     let mut hint = 2 * count;
-    while i < count {
+    let mut t = 0;
+    while t < end - start {
+        let i = row_at_turn(falling, start, end, t);
         let row = row_at(list, n, i);
-        if row.location != e.source {
-            return 0;
-        }
-        let k = slot(clocks, e, row);
+        let k = slot(clocks, e, falling, row);
         let last = walked[k];
         let turn = leads_on(list, clocks, count, e, sole, last, row, hint);
         if !turn.inside {
@@ -207,7 +201,7 @@ fn lacks_by_edge(list: &[u8], clocks: Clocks, count: usize, e: Edge) -> u16
         hint = turn.at;
         let kept = turn.walked;
         walked[k] = kept;
-        i += 1;
+        t += 1;
     }
     0
 }

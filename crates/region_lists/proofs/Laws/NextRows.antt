@@ -127,6 +127,11 @@ module _ (next : Row → List Row) (n : ℕ) (list : List ℕ) (count : ℕ) whe
   pub next-begins : NextTo 0
   next-begins = record { within = omega arith; so-far = λ j h. absurd (omega arith) }
 
+  -- a row that lacks a next row
+  pub next-fails : (i : ℕ) → i < count → every (has rows) (next (listed-row n list i)) ≡ false → NextListed next rows (i + 1)
+  next-fails i l b =
+      rw add-one (omega (arith, listed-length n list count), λ d. ap (λ (r : Row). every (has rows) (next r)) (listed-at n list count i d l) ∙ b)
+
   module _ (i : ℕ) (S : NextTo i) where
     pub next-on : i < count → every (has rows) (next (listed-row n list i)) ≡ true → NextTo (i + 1)
     next-on l b = record { within = omega arith; so-far = λ j h. go j h (ℕ-discrete j i) }
@@ -134,10 +139,6 @@ module _ (next : Row → List Row) (n : ℕ) (list : List ℕ) (count : ℕ) whe
         go : (j : ℕ) → j < i + 1 → Dec (j ≡ i) → every (has rows) (next (listed-row n list j)) ≡ true
         go j h (yes e) = rw e b
         go j h (no e) = S .so-far j (omega arith)
-
-    pub next-fails : i < count → every (has rows) (next (listed-row n list i)) ≡ false → NextListed next rows (i + 1)
-    next-fails l b =
-        rw add-one (omega (arith, listed-length n list count), λ d. ap (λ (r : Row). every (has rows) (next r)) (listed-at n list count i d l) ∙ b)
 
     pub next-all : count ≤ i → NextListed next rows 0
     next-all l r m = let (j, h, e) = in-listed n list count r m in ap (λ (r : Row). every (has rows) (next r)) (sym e) ∙ S .so-far j (omega arith)

@@ -1,9 +1,9 @@
 -- The rows of a location stand together in an ascending list. Assumes nothing.
-use Prim.Native.Nat.{ℕ, zero, suc, _≤_, _<_}
-use native.Mathlib.Decide.{decLe}
+use Prim.Native.Nat.{ℕ, zero, suc, _+_, _-_, _≤_, _<_}
+use native.Mathlib.Decide.{decLe, decLt, ℕ-discrete}
 use native.Mathlib.Omega.{arith}
-use mathlib.Core.Path.{_≡_, refl, sym, ap, _∙_}
-use mathlib.Core.Bool.{true}
+use mathlib.Core.Path.{_≡_, refl, sym}
+use mathlib.Core.Bool.{Bool, true, false}
 use mathlib.Core.Logic.{inl, inr}
 use mathlib.Core.List.{List, [], _∷_}
 use lib.ListN.{length, take, replicate}
@@ -14,16 +14,15 @@ use Rattle.automata.specs.Successors.{edge-rows}
 use Rattle.automata.specs.Checks.{belowb, every, has}
 use Rattle.regions.specs.Values.{row-of}
 use Rattle.regions.specs.declared.region.Region.{Region}
-use Rattle.automata.proofs.Laws.Order.{Tri, is-lt, is-eq, is-gt, tri}
 use Rattle.automata.proofs.Laws.Tests.{refutes}
 use Rattle.regions.proofs.Laws.Values.{length-first}
 use Rattle.automata.proofs.Laws.Checks.{belowb-law}
 use Rattle.region_lists.specs.Listed.{listed-row, listed-rows, Splits}
 use Rattle.region_lists.specs.RegionList.{NextListed}
-use Rattle.region_lists.specs.Leading.{Starts}
+use Rattle.region_lists.specs.Leading.{Starts, Stretch, turned}
 use Rattle.region_lists.proofs.Laws.Listed.{listed-rise}
 use Rattle.region_lists.proofs.Laws.ListedNumbers.{intervals-long, ranks-long}
-use Rattle.region_lists.proofs.Laws.NextRows.{NextTo, next-all, edge-elsewhere}
+use Rattle.region_lists.proofs.Laws.NextRows.{next-all, edge-elsewhere}
 
 -- the least row of a location ------------------------------------------------------------------------------------------------------------
 
@@ -77,24 +76,78 @@ module _ (n : ℕ) (list : List ℕ) (count : ℕ) where
           go (no g) =
               absurd (refutes (belowb (listed-row n list i) (row-of n (least-in l))) (belowb-law (listed-row n list i) (row-of n (least-in l))) (S .others i h k) (inl (omega arith)))
 
+-- what holds from start to before i, and of i
+pub one-more : {A : Type 0} (f : ℕ → A) (a : A) (start i : ℕ) → ((j : ℕ) → start ≤ j → j < i → f j ≡ a) → f i ≡ a → (j : ℕ) → start ≤ j → j < i + 1 → f j ≡ a
+one-more f a start i all e j h l = go (ℕ-discrete j i)
+  where
+    go : Dec (j ≡ i) → f j ≡ a
+    go (yes q) = rw q e
+    go (no q) = all j h (omega arith)
+
+-- the rows of a location, one after the other in either order ----------------------------------------------------------------------------
+
+-- a turn's number is between start and end, and each of those has a turn
+turned-within : (down : Bool) (start end t : ℕ) → start + t < end → (start ≤ turned down start end t) × (turned down start end t < end)
+unfolding turned
+turned-within true start end t h = (omega arith, omega arith)
+turned-within false start end t h = (omega arith, omega arith)
+
+pub turned-last : (down : Bool) (start end t : ℕ) → down ≡ true → end - 1 - t ≡ turned down start end t
+unfolding turned
+turned-last down start end t e = rw e refl
+
+pub turned-first : (down : Bool) (start end t : ℕ) → down ≡ false → start + t ≡ turned down start end t
+unfolding turned
+turned-first down start end t e = rw e refl
+
+has-turn : (down : Bool) (start end j : ℕ) → start ≤ j → j < end → (t : ℕ) × (start + t < end) × (turned down start end t ≡ j)
+unfolding turned
+has-turn true start end j h l = (end - 1 - j, omega arith, omega arith)
+has-turn false start end j h l = (j - start, omega arith, omega arith)
+
+module _ (n : ℕ) (list : List ℕ) (count : ℕ) (c : List ℕ) (e : Edge) (down : Bool) (start end : ℕ) where
+  abbrev rows : List Row
+  rows = listed-rows n list count
+
+  -- from the rows of the turns before t the edge leads into the list
+  pub record Turned (t : ℕ) : Type 0 where
+    pub so-far : (s : ℕ) → s < t → every (has rows) (edge-rows c e (listed-row n list (turned down start end s))) ≡ true
+
+  pub turned-nothing : Turned 0
+  turned-nothing = record { so-far = λ s h. absurd (omega arith) }
+
+  pub turned-on : (t i : ℕ) → Turned t → i ≡ turned down start end t → every (has rows) (edge-rows c e (listed-row n list i)) ≡ true → Turned (t + 1)
+  turned-on t i T d b = record { so-far = λ s h. go s h (ℕ-discrete s t) }
+    where
+      go : (s : ℕ) → s < t + 1 → Dec (s ≡ t) → every (has rows) (edge-rows c e (listed-row n list (turned down start end s))) ≡ true
+      go s h (yes q) = rw (q, ← d) b
+      go s h (no q) = T .so-far s (omega arith)
+
   -- an edge leads nowhere from the rows before those of its source, and from those after them
-  module _ (c : List ℕ) (e : Edge) (m : ℕ) (S : Starts n list count (e .source) m) where
-    from-elsewhere : (j : ℕ) → (listed-row n list j .location ≡ e .source → ⊥)
-        → every (has (listed-rows n list count)) (edge-rows c e (listed-row n list j)) ≡ true
-    from-elsewhere j h = sym (edge-elsewhere c e (listed-row n list j) (has (listed-rows n list count)) h)
+  module _ (S : Starts n list count (e .source) start) (E : Stretch n list count start (e .source) end) where
+    pub turn-within : (t i : ℕ) → t < end - start → i ≡ turned down start end t → (i < count) × (listed-row n list i .location ≡ e .source)
+    turn-within t i h d =
+        let (a, b) = turned-within down start end t (omega arith) in
+        (omega (arith, E .within), E .all i (omega arith) (omega arith))
 
-    pub stretch-begins : NextTo (edge-rows c e) n list count m
-    stretch-begins = record { within = S .within; so-far = λ j h. from-elsewhere j (λ q. omega (arith, S .before j h)) }
-
-    pub stretch-ends : Ascends (listed-rows n list count) → (i : ℕ) → NextTo (edge-rows c e) n list count i → m ≤ i → i < count
-        → (listed-row n list i .location ≡ e .source → ⊥) → NextListed (edge-rows c e) (listed-rows n list count) 0
-    stretch-ends a i N h l d = next-all (edge-rows c e) n list count count (record { within = omega arith; so-far = λ j k. go j k (tri j i) }) (omega arith)
+    pub turned-all : Ascends rows → (t : ℕ) → Turned t → end - start ≤ t → NextListed (edge-rows c e) rows 0
+    turned-all a t T h = next-all (edge-rows c e) n list count count (record { within = omega arith; so-far = λ j k. go j k (decLe start j) (decLt j end) }) (omega arith)
       where
-        past : e .source < listed-row n list i .location
-        past = omega (arith, S .others i h l, d)
+        elsewhere : (j : ℕ) → (listed-row n list j .location ≡ e .source → ⊥) → every (has rows) (edge-rows c e (listed-row n list j)) ≡ true
+        elsewhere j g = sym (edge-elsewhere c e (listed-row n list j) (has rows) g)
 
-        go : (j : ℕ) → j < count → Tri j i → every (has (listed-rows n list count)) (edge-rows c e (listed-row n list j)) ≡ true
-        go j k (is-lt g _) = N .so-far j g
-        go j k (is-eq g _) = from-elsewhere j (λ q. d (ap (λ (x : ℕ). listed-row n list x .location) (sym g) ∙ q))
-        go j k (is-gt g _) =
-            from-elsewhere j (λ q. omega (arith, past, below-location (listed-row n list i) (listed-row n list j) (listed-rise n list count a i j g k)))
+        past : (j : ℕ) → j < count → end ≤ j → e .source < listed-row n list j .location
+        past j k g = at-or-after (ℕ-discrete j end)
+          where
+            first : e .source < listed-row n list end .location
+            first = let h : end < count = omega arith in omega (arith, S .others end (E .from) h, E .next h)
+
+            at-or-after : Dec (j ≡ end) → e .source < listed-row n list j .location
+            at-or-after (yes q) = rw q first
+            at-or-after (no q) =
+                omega (arith, first, below-location (listed-row n list end) (listed-row n list j) (listed-rise n list count a end j (omega arith) k))
+
+        go : (j : ℕ) → j < count → Dec (start ≤ j) → Dec (j < end) → every (has rows) (edge-rows c e (listed-row n list j)) ≡ true
+        go j k (no g) q = elsewhere j (λ x. omega (arith, S .before j (omega arith)))
+        go j k (yes g) (yes q) = let (s, l, d) = has-turn down start end j g q in rw d at (T .so-far s (omega arith))
+        go j k (yes g) (no q) = elsewhere j (λ x. omega (arith, past j k (omega arith)))

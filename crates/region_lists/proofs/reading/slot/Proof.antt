@@ -4,10 +4,10 @@ use Rattle.region_lists.proofs.reading.slot.Statement.{statement}
 use Rattle.region_lists.proofs.reading.slot.Tie as tie
 
 abbrev Inv-loop : tie.InvT-loop
-Inv-loop clocks from e mixed₀ z₀ mixed z = (z ≤ 4) × (mixed < 65536)
+Inv-loop clocks falling from e mixed₀ z₀ mixed z = (z ≤ 4) × (mixed < 65536)
 
 abbrev μ-loop : tie.MeasureT-loop
-μ-loop clocks from e mixed₀ z₀ mixed z = 4 - z
+μ-loop clocks falling from e mixed₀ z₀ mixed z = 4 - z
 
 -- src/reading.rt:157:5
 loop-holds : tie.Need-loop-holds Inv-loop μ-loop

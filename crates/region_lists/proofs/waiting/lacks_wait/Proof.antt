@@ -50,7 +50,7 @@ cast-result c = search needs
 
 -- src/waiting.rt:42:13
 returns : tie.Need-returns Inv-loop μ-loop
-returns c = next-fails (wait-rows (bounds-of (c .before .before .before .before .before .before .before .args .clocks))) (c .before .before .before .before .before .before .before .args .clocks .count) (now (c .before .before .before .before .before .before .before .args .list)) (c .before .before .before .before .before .before .before .args .count) _ (c .before .before .before .before .loop .inv) (c .before .before .before .loop-test .taken) (ap (λ (r : Row). every (has (listed-rows (c .before .before .before .before .before .before .before .args .clocks .count) (now (c .before .before .before .before .before .before .before .args .list)) (c .before .before .before .before .before .before .before .args .count))) (wait-rows (bounds-of (c .before .before .before .before .before .before .before .args .clocks)) r)) (sym (listed-again (c .before .before .before .before .before .before .before .args .clocks .count) (now (c .before .before .before .before .before .before .before .args .list)) _ _ (c .before .before .row-at .ensures))) ∙ sym (c .before .waits-inside .ensures) ∙ not-true _ (c .if1 .taken))
+returns c = next-fails (wait-rows (bounds-of (c .before .before .before .before .before .before .before .args .clocks))) (c .before .before .before .before .before .before .before .args .clocks .count) (now (c .before .before .before .before .before .before .before .args .list)) (c .before .before .before .before .before .before .before .args .count) _ (c .before .before .before .loop-test .taken) (ap (λ (r : Row). every (has (listed-rows (c .before .before .before .before .before .before .before .args .clocks .count) (now (c .before .before .before .before .before .before .before .args .list)) (c .before .before .before .before .before .before .before .args .count))) (wait-rows (bounds-of (c .before .before .before .before .before .before .before .args .clocks)) r)) (sym (listed-again (c .before .before .before .before .before .before .before .args .clocks .count) (now (c .before .before .before .before .before .before .before .args .list)) _ _ (c .before .before .row-at .ensures))) ∙ sym (c .before .waits-inside .ensures) ∙ not-true _ (c .if1 .taken))
 
 -- src/waiting.rt:44:9
 add-i : tie.Need-add-i Inv-loop μ-loop
