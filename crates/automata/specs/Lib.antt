@@ -9,7 +9,8 @@ pub mod Automaton
 pub mod Run
 pub mod Closed
 pub mod Rows
-pub mod Rankings
 pub mod Successors
 pub mod Checks
 pub mod Meeting
+-- beside that, no part of any promise: how many ranks and rankings there are, which the checks go by
+pub mod Rankings

@@ -1,5 +1,5 @@
--- Whether an edge leads no further from a row than from another, a row that it was followed from before, and where the rows of a location start:
--- for the check of region lists. Assumes nothing.
+-- Whether an edge leads no further from a row than from another, a row that it was followed from before, where the rows of a location start and end,
+-- and in which order they are taken: for the check of region lists. Assumes nothing.
 use Prim.Native.Nat.{ℕ, _+_, _*_, _-_, _≤_, _<_, Ordering·lt, Ordering·gt}
 use mathlib.Core.Path.{_≡_}
 use mathlib.Core.Bool.{Bool, true, cond, not, _&&_, _||_}
