@@ -39,6 +39,5 @@ pub mod Start
 pub mod Closure
 pub mod Sound
 pub mod Complete
--- the main theorems, and examples
+-- the main theorems
 pub mod Index
-pub mod Samples

@@ -2,7 +2,7 @@
 use Prim.Native.Nat.{ℕ, compare, Ordering, Ordering·lt, Ordering·eq, Ordering·gt}
 use mathlib.Core.Bool.{Bool, true, false, _||_}
 use mathlib.Core.List.{List, [], _∷_}
-use lib.ListN.{getD}
+use lib.ListN.{length, getD}
 
 -- "0 <, 1 ≤, 2 =, 3 ≥, 4 >, each with its yes or no for below, at and above"
 abbrev pub answers : List (List Bool)
@@ -13,6 +13,10 @@ answers =
     ∷ (false ∷ true ∷ true ∷ [])
     ∷ (false ∷ false ∷ true ∷ [])
     ∷ []
+
+-- how many there are, numbered from 0
+abbrev pub comparisons : ℕ
+comparisons = length answers
 
 -- the place of an order in a row of that table: below, at, above
 abbrev pub place : Ordering → ℕ

@@ -37,6 +37,12 @@ pub record Edge : Type 0 where
 abbrev pub idle : Update
 idle = record { action = keep; comparison = 0 }
 
+-- a clock that an update reads is one of the first n
+abbrev pub ActionIn : ℕ → Action → Type 0
+ActionIn n keep = Unit {0}
+ActionIn n (constant k) = Unit {0}
+ActionIn n (clock y up down) = y < n
+
 -- points ------------------------------------------------------------------------------------------------------------------------
 
 -- "All its guards hold": each clock stands in its guard's comparison to the constant

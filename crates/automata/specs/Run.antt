@@ -1,10 +1,10 @@
 -- Runs. "A run has a scale D of at least 1; time and clock values are whole counts of 1/D". Assumes nothing.
-use Prim.Native.Nat.{ℕ, _<_}
+use Prim.Native.Nat.{ℕ, _*_, _<_}
 use mathlib.Core.Path.{_≡_}
 use mathlib.Core.Bool.{true}
 use mathlib.Core.List.{List, [], _∷_, _++_}
 use lib.ListN.{length, replicate}
-use Rattle.automata.specs.Point.{later}
+use Rattle.automata.specs.Point.{later, scaled}
 use Rattle.automata.specs.Edge.{Guarded, Allowed}
 use Rattle.automata.specs.Automaton.{Table, clocks, edge, final}
 
@@ -40,6 +40,13 @@ pub record Step (T : Table) (D : ℕ) (s : State) (m : Move) : Type 0 where
 pub data Run (T : Table) (D : ℕ) : List Move → State → Type 0 where
   begin : 0 < D → Run T D [] (first T)
   move : {ms : List Move} {s : State} (m : Move) → Run T D ms s → Step T D s m → Run T D (ms ++ (m ∷ [])) (after T m)
+
+-- a state and a step counted in 1/(k * D) instead of 1/D: every delay and value is k times as many counts
+abbrev pub scaled-state : ℕ → State → State
+scaled-state k s = record { location = s .location; values = scaled k (s .values) }
+
+abbrev pub scaled-move : ℕ → Move → Move
+scaled-move k m = record { number = m .number; delay = k * m .delay; values = scaled k (m .values) }
 
 -- "some run ends in a final location" (demand 3)
 pub record Reached (T : Table) : Type 0 where

@@ -13,14 +13,14 @@ use Rattle.automata.specs.Edge.{Leads}
 use Rattle.automata.specs.Automaton.{Table, edge, final}
 use Rattle.automata.specs.Run.{State, Move, Run}
 use Rattle.automata.specs.Closed.{Mem, Ascends, RowOf, Closed}
-use Rattle.table_files.specs.Answer.{Answer, accepted, refused}
+use Rattle.table_files.specs.Answer.{Answer, accepted, refused, refusals}
 use Rattle.calls.specs.RunFile.{RunList, run-bytes}
 use Rattle.calls.specs.RegionFile.{row-bytes, rows-bytes, list-bytes}
 
--- what admission and both checks answer: a count of at most 4,096, or a refusal number of 1 to 19 and a place of at most 4,097
+-- what admission and both checks answer: a count of at most 4,096, or a refusal number and a place of at most 4,097
 abbrev pub Small : Answer → Type 0
 Small (accepted count) = count ≤ 4096
-Small (refused number place) = (1 ≤ number) × (number ≤ 19) × (place ≤ 4097)
+Small (refused number place) = (1 ≤ number) × (number ≤ refusals) × (place ≤ 4097)
 
 -- runs -----------------------------------------------------------------------------------------------------------------------
 

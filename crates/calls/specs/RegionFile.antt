@@ -27,10 +27,14 @@ row-in n b = record {
   ranks = each n (λ (z : ℕ). at b (3 + n + z));
 }
 
+-- the bytes of a row record of n clocks
+unfoldable pub row-width : ℕ → ℕ
+row-width n = 3 + 2 * n
+
 -- "A field of it is out of range, ranks included"
 unfoldable pub row-record : Table → ℕ → Reader Row
 row-record T place = do
-  b ← next-record 7 place RW (3 + 2 * clocks T)
+  b ← next-record 7 place RW (row-width (clocks T))
   require 8 place (ltb (at b 2) (T .locations))
   require 8 place (isrowb (T .bounds) (row-in (clocks T) b))
   done (row-in (clocks T) b)

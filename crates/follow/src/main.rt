@@ -3,6 +3,7 @@
 ghost use Prim.Native.Nat.{_≤_};
 use following::follow::Followed;
 use following::follow::follow;
+use rows::row::row_width;
 
 // Prints bytes as numbers, with spaces between them.
 fn print_numbers(bytes: &[u8]) {
@@ -25,7 +26,7 @@ fn print_byte(x: u8) {
 fn print_rows(bytes: &[u8], n: usize, count: usize)
     requires { ⌜ n ≤ 4 ⌝ }
 {
-    let width = 3 + 2 * n;
+    let width = row_width(n);
     let mut at = 0;
     let mut i = 0;
     while i < count {

@@ -1,11 +1,11 @@
 // Following one region: its next rows, by waiting or by an edge, written into a lent buffer.
 ghost use mathlib.Core.Path.{_≡_};
 ghost use mathlib.Core.List.{_++_};
-ghost use Prim.Native.Nat.{ℕ, _+_, _*_, _≤_};
+ghost use Prim.Native.Nat.{ℕ, _≤_};
 ghost use lib.ListN.{length, drop};
 ghost use Rattle.table_files.specs.Answer.{accepted};
 ghost use Rattle.table_files.specs.Admission.{table-of};
-ghost use Rattle.calls.specs.RegionFile.{rows-bytes};
+ghost use Rattle.calls.specs.RegionFile.{row-width, rows-bytes};
 ghost use Rattle.calls.specs.Follow.{follow-answer, follow-buffer};
 ghost use Rattle.calls.specs.Meaning.{Written};
 ghost use Rattle.following.specs.Following.{answer-of, Stands, Leaves, rows-waited, rows-led, fits, told, put, FirstAfter};
@@ -15,6 +15,7 @@ use regions::region::Clocks;
 use regions::region::Region;
 use regions::region::Sought;
 use rows::row::read_row;
+use rows::row::row_width;
 use rows::row_writer::write_row;
 use tables::admission::edge_at;
 use tables::admission::open;
@@ -26,10 +27,11 @@ pub enum Followed {
 }
 
 // The bytes of a row record.
-fn row_width(clocks: Clocks) -> usize
-    ensures { λ r. ⌜ r ≡ 3 + 2 * clocks .count ⌝ }
+fn width_of(clocks: Clocks) -> usize
+    requires { ⌜ clocks .count ≤ 4 ⌝ }
+    ensures { λ r. ⌜ r ≡ row-width (clocks .count) ⌝ }
 {
-    3 + 2 * (clocks.count as usize)
+    row_width(clocks.count as usize)
 }
 
 // Whether the rows of all regions that the edge leads to fit in so many bytes. The first that does not fit ends the count.
@@ -38,7 +40,7 @@ fn all_fit(clocks: Clocks, from: Region, e: Edge, room: usize) -> bool
     requires { ⌜ Leaves clocks e ⌝ }
     ensures { λ r. ⌜ r ≡ fits (rows-led clocks e from) room ⌝ }
 {
-    let width = row_width(clocks);
+    let width = width_of(clocks);
     let mut floor = Sought {
         found: false,
         region: from,
@@ -65,7 +67,7 @@ fn write_all(buffer: &mut [u8], clocks: Clocks, from: Region, e: Edge) -> usize
     ensures count { λ r. ⌜ r ≡ length (rows-led clocks e from) ⌝ }
     ensures rows { λ r. ⌜ now (buffer .exit) ≡ rows-bytes (rows-led clocks e from) ++ drop (length (rows-bytes (rows-led clocks e from))) (now (buffer .entry)) ⌝ }
 {
-    let width = row_width(clocks);
+    let width = width_of(clocks);
     let n = clocks.count as usize;
     let mut floor = Sought {
         found: false,
@@ -110,7 +112,7 @@ fn follow_wait(buffer: &mut [u8], clocks: Clocks, from: Region) -> Followed
     if !waited.found {
         return Followed::Written(0);
     }
-    if buffer.len() < row_width(clocks) {
+    if buffer.len() < width_of(clocks) {
         return Followed::Refused(19, 0);
     }
     let region = waited.region;
@@ -136,7 +138,7 @@ pub fn follow(table: &[u8], row: &[u8], number: u16, buffer: &mut [u8]) -> Follo
         return Followed::Refused(read.number, 0);
     }
     let clocks = head.clocks;
-    if row_width(clocks) < row.len() {
+    if width_of(clocks) < row.len() {
         return Followed::Refused(9, 1);
     }
     let from = read.region;

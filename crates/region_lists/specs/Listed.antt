@@ -9,11 +9,19 @@ use Rattle.automata.specs.Rows.{from}
 use Rattle.automata.specs.Checks.{belowb}
 use Rattle.regions.specs.Values.{Few, bounds-of}
 use Rattle.regions.specs.declared.region.Clocks.{Clocks}
-use Rattle.calls.specs.RegionFile.{row-in}
+use Rattle.calls.specs.RegionFile.{row-in, row-width}
 
--- row i, counted from 0, of n clocks: rows of 3 + 2 n bytes stand after the four of the header
+-- the bytes of row i, counted from 0, of n clocks: rows stand after the four bytes of the header
+abbrev pub listed-bytes : ℕ → List ℕ → ℕ → List ℕ
+listed-bytes n list i = take (row-width n) (drop (4 + i * row-width n) list)
+
+-- that row's bytes are all there
+abbrev pub HasRow : ℕ → List ℕ → ℕ → Type 0
+HasRow n list i = 4 + i * row-width n + row-width n ≤ length list
+
+-- that row
 unfoldable pub listed-row : ℕ → List ℕ → ℕ → Row
-listed-row n list i = row-in n (take (3 + 2 * n) (drop (4 + i * (3 + 2 * n)) list))
+listed-row n list i = row-in n (listed-bytes n list i)
 
 -- the first so many rows
 unfoldable pub listed-rows : ℕ → List ℕ → ℕ → List Row
@@ -24,7 +32,7 @@ pub record Listed (k : Clocks) (list : List ℕ) (count : ℕ) : Type 0 where
   pub few : Few k
   pub sized : length (bounds-of k) ≡ k .count
   pub short : count ≤ 4096
-  pub room : 4 + count * (3 + 2 * k .count) ≤ length list
+  pub room : 4 + count * row-width (k .count) ≤ length list
   pub are-rows : (i : ℕ) → i < count → IsRow (bounds-of k) (listed-row (k .count) list i)
 
 -- of so many rows the first m are below a row, and no other is

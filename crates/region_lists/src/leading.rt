@@ -11,6 +11,7 @@ ghost use Rattle.regions.specs.Image.{deterministic};
 ghost use Rattle.automata.specs.Checks.{every, has};
 ghost use Rattle.regions.specs.Values.{bounds-of, row-of, edge-of};
 ghost use Rattle.table_files.specs.Admission.{table-of};
+ghost use Rattle.calls.specs.RegionFile.{row-width};
 ghost use Rattle.tables.specs.Values.{Describes};
 ghost use Rattle.region_lists.specs.Listed.{listed-rows, Listed};
 ghost use Rattle.region_lists.specs.RegionList.{by-edges, NextListed};
@@ -146,7 +147,7 @@ fn rows_before(list: &[u8], clocks: Clocks, count: usize, location: u8) -> usize
 // Where the rows of a location end that start at a row.
 fn rows_end(list: &[u8], n: usize, count: usize, start: usize, location: u8) -> usize
     requires { ⌜ n ≤ 4 ⌝ }
-    requires { ⌜ 4 + count * (3 + 2 * n) ≤ length (now list) ⌝ }
+    requires { ⌜ 4 + count * row-width n ≤ length (now list) ⌝ }
     requires { ⌜ (start ≤ count) × (count ≤ 4096) ⌝ }
     ensures { λ r. ⌜ Stretch n (now (list .entry)) count start location r ⌝ }
 {

@@ -1,13 +1,14 @@
 // The records of a region list: refusals 7, 8 and 9.
 ghost use mathlib.Core.Path.{_≡_};
-ghost use Prim.Native.Nat.{_≤_};
+ghost use Prim.Native.Nat.{_+_, _*_, _≤_};
 ghost use lib.ListN.{length, drop};
 ghost use Rattle.table_files.specs.Reading.{records};
 ghost use Rattle.table_files.specs.Admission.{table-of};
 ghost use Rattle.tables.specs.Values.{Describes};
-ghost use Rattle.calls.specs.RegionFile.{row-record, region-file, rows-of};
+ghost use Rattle.calls.specs.RegionFile.{row-width, row-record, region-file, rows-of};
 ghost use Rattle.region_lists.specs.RegionList.{Told};
 use rows::row::read_row;
+use rows::row::row_width;
 use table_records::head::Head;
 use table_records::record::record;
 use table_records::record::two_bytes;
@@ -26,7 +27,7 @@ fn read_rows(table: &[u8], head: Head, list: &[u8], count: u16) -> ListRead
     ensures { λ r. ⌜ Told (records (row-record (table-of (now (table .entry)))) 1 count (drop 4 (now (list .entry)))) (r .number) (r .place) ⌝ }
 {
     let clocks = head.clocks;
-    let size = 3 + 2 * (clocks.count as usize);
+    let size = row_width(clocks.count as usize);
     let mut at = 4;
     let mut i = 0;
     while i < count {
@@ -46,6 +47,14 @@ fn read_rows(table: &[u8], head: Head, list: &[u8], count: u16) -> ListRead
         place: 0,
         count: count,
     }
+}
+
+// Where so many rows of n clocks end.
+fn list_end(count: u16, n: usize) -> usize
+    requires { ⌜ (count ≤ 4096) × (n ≤ 4) ⌝ }
+    ensures { λ r. ⌜ r ≡ 4 + count * row-width n ⌝ }
+{
+    4 + (count as usize) * row_width(n)
 }
 
 // All records of a list: the header, its rows, and nothing after them.
@@ -75,7 +84,7 @@ pub fn read_list(table: &[u8], head: Head, list: &[u8]) -> ListRead
         return rows;
     }
     let clocks = head.clocks;
-    let end = 4 + (count as usize) * (3 + 2 * (clocks.count as usize));
+    let end = list_end(count, clocks.count as usize);
     if end < list.len() {
         return ListRead {
             number: 9,

@@ -1,50 +1,60 @@
 // The rows of a region list whose records were read: each is read again from its bytes, by value, as often as it is wanted.
 ghost use mathlib.Core.Path.{_≡_};
-ghost use Prim.Native.Nat.{_+_, _*_, _≤_, _<_};
-ghost use lib.ListN.{length};
+ghost use Prim.Native.Nat.{_≤_, _<_};
 ghost use Rattle.regions.specs.Order.{numbers, shared};
 ghost use Rattle.automata.specs.Closed.{Ascends};
 ghost use Rattle.automata.specs.Checks.{same-row, belowb, has};
 ghost use Rattle.regions.specs.Values.{row-of, region-of};
-ghost use Rattle.region_lists.specs.Listed.{listed-row, listed-rows, Listed, Splits};
+ghost use Rattle.region_lists.specs.Listed.{listed-bytes, HasRow, listed-row, listed-rows, Listed, Splits};
 ghost use Rattle.region_lists.specs.Ranked.{besideb};
 use regions::region::Clocks;
 use regions::region::Region;
 use rows::row::region_in;
+use rows::row::row_width;
 use rows::row::wide;
 
-// Row i, counted from 0, of a list of rows of n clocks.
+// The bytes of row i, counted from 0, of a list of rows of n clocks.
+fn row_bytes(list: &[u8], n: usize, i: usize) -> &[u8]
+    requires { ⌜ n ≤ 4 ⌝ }
+    requires { ⌜ HasRow n (now list) i ⌝ }
+    ensures { λ r. ⌜ now r ≡ listed-bytes n (now (list .entry)) i ⌝ }
+{
+    let size = row_width(n);
+    let at = 4 + i * size;
+    &list[at..at + size]
+}
+
+// Row i.
 pub fn row_at(list: &[u8], n: usize, i: usize) -> Region
     requires { ⌜ n ≤ 4 ⌝ }
-    requires { ⌜ 4 + i * (3 + 2 * n) + (3 + 2 * n) ≤ length (now list) ⌝ }
+    requires { ⌜ HasRow n (now list) i ⌝ }
     ensures { λ r. ⌜ r ≡ region-of (listed-row n (now (list .entry)) i) ⌝ }
 {
-    let size = 3 + 2 * n;
-    let at = 4 + i * size;
-    region_in(&list[at..at + size], n)
+    region_in(row_bytes(list, n, i), n)
 }
 
 // The location of row i.
 pub fn location_at(list: &[u8], n: usize, i: usize) -> u8
     requires { ⌜ n ≤ 4 ⌝ }
-    requires { ⌜ 4 + i * (3 + 2 * n) + (3 + 2 * n) ≤ length (now list) ⌝ }
+    requires { ⌜ HasRow n (now list) i ⌝ }
     ensures { λ r. ⌜ r ≡ listed-row n (now (list .entry)) i .location ⌝ }
 {
-    list[6 + i * (3 + 2 * n)]
+    let bytes = row_bytes(list, n, i);
+    bytes[2]
 }
 
 // How many numbers of row i and of a region are the same before they differ. A row's numbers stand in its bytes, after the mark, in the order
 // in which regions are compared, so nothing is copied.
 fn shared_with(list: &[u8], n: usize, i: usize, wanted: Region) -> usize
     requires { ⌜ n ≤ 4 ⌝ }
-    requires { ⌜ 4 + i * (3 + 2 * n) + (3 + 2 * n) ≤ length (now list) ⌝ }
+    requires { ⌜ HasRow n (now list) i ⌝ }
     ensures { λ r. ⌜ r ≡ shared (numbers (listed-row n (now (list .entry)) i)) (numbers (row-of n wanted)) ⌝ }
 {
-    let at = 6 + i * (3 + 2 * n);
+    let bytes = row_bytes(list, n, i);
     let all = 1 + 2 * n;
     let mut j = 0;
     while j < all {
-        if wide(list[at + j]) != wanted.number(n, j) {
+        if wide(bytes[2 + j]) != wanted.number(n, j) {
             return j;
         }
         j += 1;
@@ -55,21 +65,21 @@ fn shared_with(list: &[u8], n: usize, i: usize, wanted: Region) -> usize
 // Whether row i comes before a region.
 pub fn row_is_below(list: &[u8], n: usize, i: usize, wanted: Region) -> bool
     requires { ⌜ n ≤ 4 ⌝ }
-    requires { ⌜ 4 + i * (3 + 2 * n) + (3 + 2 * n) ≤ length (now list) ⌝ }
+    requires { ⌜ HasRow n (now list) i ⌝ }
     ensures { λ r. ⌜ r ≡ belowb (listed-row n (now (list .entry)) i) (row-of n wanted) ⌝ }
 {
     let j = shared_with(list, n, i, wanted);
     if 1 + 2 * n <= j {
         return false;
     }
-    let at = 6 + i * (3 + 2 * n);
-    wide(list[at + j]) < wanted.number(n, j)
+    let bytes = row_bytes(list, n, i);
+    wide(bytes[2 + j]) < wanted.number(n, j)
 }
 
 // Whether row i is a region's.
 fn row_is(list: &[u8], n: usize, i: usize, wanted: Region) -> bool
     requires { ⌜ n ≤ 4 ⌝ }
-    requires { ⌜ 4 + i * (3 + 2 * n) + (3 + 2 * n) ≤ length (now list) ⌝ }
+    requires { ⌜ HasRow n (now list) i ⌝ }
     ensures { λ r. ⌜ r ≡ same-row (listed-row n (now (list .entry)) i) (row-of n wanted) ⌝ }
 {
     shared_with(list, n, i, wanted) == 1 + 2 * n
@@ -78,7 +88,7 @@ fn row_is(list: &[u8], n: usize, i: usize, wanted: Region) -> bool
 // Whether row i has a region's location and intervals, whatever its ranks.
 pub fn row_is_beside(list: &[u8], n: usize, i: usize, wanted: Region) -> bool
     requires { ⌜ n ≤ 4 ⌝ }
-    requires { ⌜ 4 + i * (3 + 2 * n) + (3 + 2 * n) ≤ length (now list) ⌝ }
+    requires { ⌜ HasRow n (now list) i ⌝ }
     ensures { λ r. ⌜ r ≡ besideb (listed-row n (now (list .entry)) i) (row-of n wanted) ⌝ }
 {
     n < shared_with(list, n, i, wanted)

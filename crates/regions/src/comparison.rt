@@ -1,6 +1,7 @@
 // The five comparisons: one table, which guards, run values and region moves all ask.
 ghost use mathlib.Core.Path.{_≡_};
-ghost use Rattle.automata.specs.Comparison.{place, answer, some-answer, holds};
+ghost use lib.Dec.{ltb};
+ghost use Rattle.automata.specs.Comparison.{comparisons, place, answer, some-answer, holds};
 ghost use Prim.Native.Nat.{compare};
 
 // Rows: 0 <, 1 ≤, 2 =, 3 ≥, 4 >. Columns: the answer for below, at and above.
@@ -13,6 +14,13 @@ const ANSWERS: [[bool; 3]; COMPARISONS] = [
     [false, true, true],
     [false, false, true],
 ];
+
+// Whether a number names a comparison.
+pub fn is_comparison(number: u8) -> bool
+    ensures { λ r. ⌜ r ≡ ltb number comparisons ⌝ }
+{
+    (number as usize) < COMPARISONS
+}
 
 // The column of two numbers.
 fn side(x: u64, y: u64) -> usize

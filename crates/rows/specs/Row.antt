@@ -8,7 +8,7 @@ use Rattle.automata.specs.Row.{Row}
 use Rattle.automata.specs.Automaton.{Table, clocks}
 use Rattle.regions.specs.Values.{region-of}
 use Rattle.table_files.specs.Reading.{Read, good, bad}
-use Rattle.calls.specs.RegionFile.{row-record}
+use Rattle.calls.specs.RegionFile.{row-width, row-record}
 use Rattle.rows.specs.declared.row.RowRead.{RowRead}
 
 -- byte z from a position on
@@ -23,4 +23,4 @@ RowTold place after (bad number p) r = (0 < number) × (r .number ≡ number) ×
 
 -- the row record from a position on, whatever its place
 abbrev pub ReadsRow : Table → List ℕ → ℕ → RowRead → Type 0
-ReadsRow T file p r = (place : ℕ) → RowTold place (drop (p + (3 + 2 * clocks T)) file) (row-record T place (drop p file)) r
+ReadsRow T file p r = (place : ℕ) → RowTold place (drop (p + row-width (clocks T)) file) (row-record T place (drop p file)) r

@@ -10,7 +10,7 @@ ghost use Rattle.automata.specs.Closed.{first-row};
 ghost use Rattle.regions.specs.Values.{padded, region-of};
 ghost use Rattle.table_files.specs.Admission.{table-of};
 ghost use Rattle.tables.specs.Values.{Describes};
-ghost use Rattle.calls.specs.RegionFile.{row-in};
+ghost use Rattle.calls.specs.RegionFile.{row-in, row-width};
 ghost use Rattle.rows.specs.Row.{ReadsRow, byte-from};
 use regions::region::Clocks;
 use regions::region::Region;
@@ -65,9 +65,17 @@ fn ranks_in(bytes: &[u8], at: usize, n: usize) -> [u8; 4]
     [first, second, third, fourth]
 }
 
+// The bytes of a row record of n clocks.
+pub fn row_width(n: usize) -> usize
+    requires { ⌜ n ≤ 4 ⌝ }
+    ensures { λ r. ⌜ r ≡ row-width n ⌝ }
+{
+    3 + 2 * n
+}
+
 // The region in the bytes of a row record.
 pub fn region_in(bytes: &[u8], n: usize) -> Region
-    requires { ⌜ (n ≤ 4) × (3 + 2 * n ≤ length (now bytes)) ⌝ }
+    requires { ⌜ (n ≤ 4) × (row-width n ≤ length (now bytes)) ⌝ }
     ensures { λ r. ⌜ r ≡ region-of (row-in n (now (bytes .entry))) ⌝ }
 {
     let intervals = intervals_in(bytes, 3, n);
@@ -97,7 +105,7 @@ pub fn read_row(file: &[u8], at: usize, table: &[u8], head: Head) -> RowRead
 {
     let clocks = head.clocks;
     let n = clocks.count as usize;
-    let bytes = record(file, at, 3 + 2 * n, *b"RW");
+    let bytes = record(file, at, row_width(n), *b"RW");
     if bytes.len() == 0 {
         let region = initial_row(head);
         return RowRead {

@@ -6,7 +6,7 @@ ghost use lib.ListN.{length, take, drop};
 ghost use Rattle.automata.specs.Clocks.{at};
 ghost use Rattle.regions.specs.Values.{row-of};
 ghost use Rattle.table_files.specs.Bytes.{RW};
-ghost use Rattle.calls.specs.RegionFile.{row-bytes};
+ghost use Rattle.calls.specs.RegionFile.{row-width, row-bytes};
 use regions::region::Region;
 
 // Writes the mark and the location.
@@ -50,9 +50,9 @@ fn write_ranks(out: &mut [u8], n: usize, ranks: [u8; 4])
 // Writes the row record of a region of n clocks: the mark, the location, the intervals, the ranks. Later bytes stay.
 pub fn write_row(out: &mut [u8], n: usize, region: Region)
     requires { ⌜ n ≤ 4 ⌝ }
-    requires { ⌜ 3 + 2 * n ≤ length (now out) ⌝ }
+    requires { ⌜ row-width n ≤ length (now out) ⌝ }
     requires { ⌜ ((z : ℕ) → z < n → at (region .intervals) z < 256) ⌝ }
-    ensures { λ _. ⌜ now (out .exit) ≡ row-bytes (row-of n region) ++ drop (3 + 2 * n) (now (out .entry)) ⌝ }
+    ensures { λ _. ⌜ now (out .exit) ≡ row-bytes (row-of n region) ++ drop (row-width n) (now (out .entry)) ⌝ }
 {
     let intervals = region.intervals;
     let ranks = region.ranks;

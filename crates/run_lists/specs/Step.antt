@@ -8,14 +8,13 @@ use lib.ListN.{length, take, getD}
 use Rattle.automata.specs.Automaton.{Table, edge}
 use Rattle.automata.specs.Clocks.{at, each}
 use Rattle.automata.specs.Comparison.{holds}
-use Rattle.automata.specs.Edge.{Guard, Edge}
+use Rattle.automata.specs.Edge.{Guard, Edge, ActionIn}
 use Rattle.automata.specs.Point.{later}
 use Rattle.automata.specs.Run.{State, Move}
 use Rattle.regions.specs.Values.{action-of}
 use Rattle.regions.specs.declared.edge.Edge as edge-code
 use Rattle.regions.specs.declared.edge.Guard as guard-code
 use Rattle.regions.specs.declared.edge.Update as update-code
-use Rattle.table_files.proofs.Laws.Tables.{ActionIn}
 use Rattle.table_files.specs.Bytes.{two, four}
 use Rattle.table_files.specs.Reading.{Read, good, bad, Reader, carry, _>>=_, _>>_, done, require}
 use Rattle.calls.specs.RunFile.{guardedb, allowedb}

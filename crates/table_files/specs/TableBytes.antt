@@ -5,6 +5,7 @@ use mathlib.Core.Bool.{true}
 use mathlib.Core.Logic.{_⊎_, _↔_}
 use mathlib.Core.List.{List, [], _∷_, _++_}
 use lib.ListN.{length}
+use Rattle.automata.specs.Comparison.{comparisons}
 use Rattle.automata.specs.Clocks.{at}
 use Rattle.automata.specs.Edge.{Guard, Action, keep, constant, clock, Update, Edge}
 use Rattle.automata.specs.Automaton.{Table, clocks, final, Admitted}
@@ -51,7 +52,7 @@ table-bytes flags T =
 
 -- "The five comparisons"; "constant 0 to 127"
 pub record GuardFields (g : Guard) : Type 0 where
-  pub comparison : g .comparison ≤ 4
+  pub comparison : g .comparison < comparisons
   pub constant-low : g .constant ≤ 127
 
 -- "an offset from -127 to 127": what it adds or what it takes away is 0
@@ -61,8 +62,8 @@ Offset up down = ((down ≡ 0) × (up ≤ 127)) ⊎ ((up ≡ 0) × (down ≤ 127
 -- "keep (.. other bytes 0), a constant (.. 0 to 127), or clock y plus an offset from -127 to 127"
 abbrev pub UpdateFields : ℕ → Action → Type 0
 UpdateFields comparison keep = comparison ≡ 0
-UpdateFields comparison (constant k) = (comparison ≤ 4) × (k ≤ 127)
-UpdateFields comparison (clock y up down) = (comparison ≤ 4) × Offset up down
+UpdateFields comparison (constant k) = (comparison < comparisons) × (k ≤ 127)
+UpdateFields comparison (clock y up down) = (comparison < comparisons) × Offset up down
 
 -- "guard count (0 to 8)"
 pub record EdgeFields (e : Edge) : Type 0 where

@@ -4,6 +4,7 @@ use mathlib.Core.Bool.{Bool, cond, _&&_, _||_}
 use mathlib.Core.List.{List, map}
 use lib.ListN.{length}
 use lib.Dec.{leb, ltb, eqb}
+use Rattle.automata.specs.Comparison.{comparisons}
 use Rattle.automata.specs.Clocks.{at}
 use Rattle.automata.specs.Edge.{Guard, Action, keep, constant, clock, Update, Edge}
 use Rattle.automata.specs.Automaton.{Table}
@@ -56,7 +57,7 @@ guard b p = record { clock = at b p; comparison = at b (p + 1); constant = at b 
 
 -- "(clock, comparison, constant 0 to 127)": in range
 abbrev pub guard-in-range : ℕ → Guard → Bool
-guard-in-range n g = ltb (g .clock) n && leb (g .comparison) 4 && leb (g .constant) 127
+guard-in-range n g = ltb (g .clock) n && ltb (g .comparison) comparisons && leb (g .constant) 127
 
 -- "five bytes (kind, comparison, clock y, offset in two bytes, signed)"
 pub record Fields : Type 0 where
@@ -73,8 +74,8 @@ fields b p = record { kind = at b p; comparison = at b (p + 1); y = at b (p + 2)
 abbrev pub fields-in-range : ℕ → Fields → Bool
 fields-in-range n f =
     (eqb (f .kind) 0 && eqb (f .comparison) 0 && eqb (f .y) 0 && eqb (f .offset) 0)
-    || (eqb (f .kind) 1 && leb (f .comparison) 4 && eqb (f .y) 0 && leb (f .offset) 127)
-    || (eqb (f .kind) 2 && leb (f .comparison) 4 && ltb (f .y) n && leb (up (f .offset)) 127 && leb (down (f .offset)) 127)
+    || (eqb (f .kind) 1 && ltb (f .comparison) comparisons && eqb (f .y) 0 && leb (f .offset) 127)
+    || (eqb (f .kind) 2 && ltb (f .comparison) comparisons && ltb (f .y) n && leb (up (f .offset)) 127 && leb (down (f .offset)) 127)
 
 -- what fields in range say
 abbrev pub action : Fields → Action

@@ -4,6 +4,7 @@ ghost use mathlib.Core.Bool.{_&&_};
 ghost use Prim.Native.Nat.{_+_, _*_, _≤_};
 ghost use lib.ListN.{length, drop};
 ghost use lib.Dec.{eqb, leb, ltb};
+ghost use Rattle.automata.specs.Comparison.{comparisons};
 ghost use Rattle.automata.specs.Checks.{every};
 ghost use Rattle.table_files.specs.Bytes.{up, down};
 ghost use Rattle.table_files.specs.Reading.{records};
@@ -17,6 +18,7 @@ use crate::record::two_bytes;
 use crate::scan::Scan;
 use crate::scan::reached;
 use crate::scan::refused;
+use regions::comparison::is_comparison;
 
 const ED: [u8; 2] = *b"ED";
 
@@ -42,7 +44,7 @@ fn guard_passes(bytes: &[u8], at: usize, clocks: u8) -> bool
     if clocks <= bytes[at] {
         return false;
     }
-    if 4 < bytes[at + 1] {
+    if !is_comparison(bytes[at + 1]) {
         return false;
     }
     bytes[at + 2] <= 127
@@ -99,9 +101,9 @@ fn keep_passes(comparison: u8, y: u8, offset: u16) -> bool
 
 // Whether an update to a constant is in range.
 fn constant_passes(comparison: u8, y: u8, offset: u16) -> bool
-    ensures { λ r. ⌜ r ≡ (leb comparison 4 && eqb y 0 && leb offset 127) ⌝ }
+    ensures { λ r. ⌜ r ≡ (ltb comparison comparisons && eqb y 0 && leb offset 127) ⌝ }
 {
-    if 4 < comparison {
+    if !is_comparison(comparison) {
         return false;
     }
     if y != 0 {
@@ -112,9 +114,9 @@ fn constant_passes(comparison: u8, y: u8, offset: u16) -> bool
 
 // Whether an update from a clock is in range.
 fn clock_passes(comparison: u8, y: u8, offset: u16, clocks: u8) -> bool
-    ensures { λ r. ⌜ r ≡ (leb comparison 4 && ltb y clocks && leb (up offset) 127 && leb (down offset) 127) ⌝ }
+    ensures { λ r. ⌜ r ≡ (ltb comparison comparisons && ltb y clocks && leb (up offset) 127 && leb (down offset) 127) ⌝ }
 {
-    if 4 < comparison {
+    if !is_comparison(comparison) {
         return false;
     }
     if clocks <= y {

@@ -13,7 +13,7 @@ use Rattle.automata.specs.Point.{later, scaled}
 use Rattle.automata.specs.Wait.{wait}
 use Rattle.automata.specs.Edge.{Leads}
 use Rattle.automata.specs.Automaton.{Table, edge, final, Admitted}
-use Rattle.automata.specs.Run.{Move, first, after, Step, begin, move, Reached}
+use Rattle.automata.specs.Run.{Move, first, after, Step, begin, move, scaled-state, scaled-move, Reached}
 use Rattle.automata.specs.Closed.{Mem, first-row, RowOf, Closed, ExactlyOne}
 use Rattle.automata.specs.Rows.{from, select, gather, rows-at}
 use Rattle.automata.specs.Successors.{next-rows}
@@ -28,7 +28,7 @@ use Rattle.automata.proofs.Laws.Rows.{rows-at-in, rows-at-out, rows-at-
 use Rattle.automata.proofs.Laws.Leads.{from-any-point}
 use Rattle.automata.proofs.Laws.Successors.{wait-keeps, edge-keeps, Next, next-rows-law}
 use Rattle.automata.proofs.Laws.Checks.{has-law}
-use Rattle.automata.proofs.Laws.Finer.{scaled-move, scaled-state, run-scaled}
+use Rattle.automata.proofs.Laws.Finer.{run-scaled}
 use Rattle.automata.proofs.Laws.Start.{zero-is-row, zero-contains}
 use Rattle.automata.proofs.Laws.Sound.{sound}
 use Rattle.automata.proofs.Laws.Closure.{some-or-all, Closure, closure}
@@ -69,8 +69,8 @@ module _ (T : Table) (admitted : Admitted T) where
       record {
         row-of = wait-keeps T r r′ (g .row-of) e;
         D = k * g .D;
-        moves = map (scaled-move k p) (g .moves);
-        state = scaled-state k p (g .state);
+        moves = map (scaled-move k) (g .moves);
+        state = scaled-state k (g .state);
         run = run-scaled k p (g .run);
         located = wait-location (T .bounds) r r′ (g .row-of .is-row) e ∙ g .located;
         delay = k * g .delay + t;
@@ -83,7 +83,7 @@ module _ (T : Table) (admitted : Admitted T) where
       let p : 0 < k = omega arith in
       let (v, h, gu, al) = from-any-point (T .bounds) (edge T n) r r′ (g .row-of .is-row) (admitted .bounded n b) d (g .D) (later (g .delay) (g .state .values)) (g .holds) k (omega arith) (omega arith) in
       let m : Move = record { number = n; delay = k * g .delay; values = v } in
-      let st : Step T (k * g .D) (scaled-state k p (g .state)) m = record {
+      let st : Step T (k * g .D) (scaled-state k (g .state)) m = record {
         number-in = b;
         leaves = sym (g .located) ∙ d .leaves;
         sized = h .sized;
@@ -93,7 +93,7 @@ module _ (T : Table) (admitted : Admitted T) where
       record {
         row-of = edge-keeps T admitted r r′ n b d;
         D = k * g .D;
-        moves = map (scaled-move k p) (g .moves) ++ (m ∷ []);
+        moves = map (scaled-move k) (g .moves) ++ (m ∷ []);
         state = after T m;
         run = move m (run-scaled k p (g .run)) st;
         located = d .enters;

@@ -10,7 +10,7 @@ use Rattle.automata.specs.Clocks.{at}
 use Rattle.automata.specs.Point.{later, scaled}
 use Rattle.automata.specs.Edge.{Guard, Guarded, Action, keep, constant, clock, Update, idle, AllowedBy, Allowed}
 use Rattle.automata.specs.Automaton.{Table, clocks, edge}
-use Rattle.automata.specs.Run.{State, Move, Step, Run, begin, move}
+use Rattle.automata.specs.Run.{State, Move, Step, Run, begin, move, scaled-state, scaled-move}
 use Rattle.automata.proofs.Laws.Order.{compare-times}
 use Rattle.automata.proofs.Laws.Lists.{at-scaled, length-scaled, scaled-later, scaled-zeros}
 
@@ -39,13 +39,7 @@ module _ (k : ℕ) (positive : 0 < k) where
   allowed-scaled D v v′ us h z q =
       rw (at-scaled k v′ z) (allowed-by D v z (at v′ z) (getD us z idle .comparison) (getD us z idle .action) (h z (rw length-scaled at q)))
 
-  abbrev pub scaled-move : Move → Move
-  scaled-move m = record { number = m .number; delay = k * m .delay; values = scaled k (m .values) }
-
-  abbrev pub scaled-state : State → State
-  scaled-state s = record { location = s .location; values = scaled k (s .values) }
-
-  pub step-scaled : {T : Table} {D : ℕ} {s : State} {m : Move} → Step T D s m → Step T (k * D) (scaled-state s) (scaled-move m)
+  pub step-scaled : {T : Table} {D : ℕ} {s : State} {m : Move} → Step T D s m → Step T (k * D) (scaled-state k s) (scaled-move k m)
   step-scaled {T} {D} {s} {m} st = record {
     number-in = st .number-in;
     leaves = st .leaves;
@@ -54,6 +48,6 @@ module _ (k : ℕ) (positive : 0 < k) where
     allowed = rw (← scaled-later k (m .delay) (s .values)) (allowed-scaled D (later (m .delay) (s .values)) (m .values) (edge T (m .number) .updates) (st .allowed));
   }
 
-  pub run-scaled : {T : Table} {D : ℕ} {ms : List Move} {s : State} → Run T D ms s → Run T (k * D) (map scaled-move ms) (scaled-state s)
+  pub run-scaled : {T : Table} {D : ℕ} {ms : List Move} {s : State} → Run T D ms s → Run T (k * D) (map (scaled-move k) ms) (scaled-state k s)
   run-scaled {T} {D} (begin d) = rw (scaled-zeros k (clocks T)) (begin (mul-pos positive d))
-  run-scaled {T} {D} (move {ms = ms} {s = s} m run st) = rw (map-append scaled-move ms (m ∷ [])) (move (scaled-move m) (run-scaled run) (step-scaled st))
+  run-scaled {T} {D} (move {ms = ms} {s = s} m run st) = rw (map-append (scaled-move k) ms (m ∷ [])) (move (scaled-move k m) (run-scaled run) (step-scaled st))

@@ -13,7 +13,7 @@ use Rattle.automata.specs.Point.{Contains, later, scaled}
 use Rattle.automata.specs.Wait.{wait, Waits}
 use Rattle.automata.specs.Edge.{Guard, Guarded, GuardsIn, Edge, Allowed, Bounded, Leads}
 use Rattle.automata.specs.Automaton.{Table, edge, Admitted}
-use Rattle.automata.specs.Run.{State, Move, Run, Reached}
+use Rattle.automata.specs.Run.{State, Move, Run, scaled-state, scaled-move, Reached}
 use Rattle.automata.specs.Closed.{Mem, Ascends, RowOf, Closed, ExactlyOne}
 use Rattle.automata.specs.Successors.{guardsb, leadsb, wait-rows, edge-rows, next-rows}
 use Rattle.automata.specs.Checks.{closedb}
@@ -55,7 +55,7 @@ successive-met = Complete.reach-met
 
 -- a run counted in 1/D is a run counted in 1/(k * D)
 pub run-scaling : (k : ℕ) (p : 0 < k) {T : Table} {D : ℕ} {ms : List Move} {s : State} → Run T D ms s
-    → Run T (k * D) (map (Finer.scaled-move k p) ms) (Finer.scaled-state k p s)
+    → Run T (k * D) (map (scaled-move k) ms) (scaled-state k s)
 run-scaling = Finer.run-scaled
 
 -- whether a list of rows is closed is decided by a test that computes

@@ -13,7 +13,7 @@ use Rattle.table_files.specs.Reading.{carry, next-bytes, require, end, next-rec
 use Rattle.table_files.specs.TableFile.{header, location, edge-record, table-file}
 use Rattle.table_files.specs.Admission.{edges-bounded, admitted, admission}
 use Rattle.calls.specs.RunFile.{step-record, run-file, steps-taken, run-checked, run-answer}
-use Rattle.calls.specs.RegionFile.{row-record, region-file, ascending, none-final, rows-checked, lacking, exactly, somewhere, list-outcome}
+use Rattle.calls.specs.RegionFile.{row-width, row-record, region-file, ascending, none-final, rows-checked, lacking, exactly, somewhere, list-outcome}
 use Rattle.calls.specs.Follow.{followed, rows-followed, following, follow-answer, follow-buffer}
 use Rattle.calls.specs.Program.{Printed}
 
@@ -108,7 +108,7 @@ unfolding
     relation fits clock-fits allb someb openb heldb clockb isrowb rows-at guardsb some-evenb growsb least rank-fits greedy placedb leadsb edge-rows wait-rows
     header location edge-record table-file edges-bounded admitted admission
     step-record run-file steps-taken run-checked run-answer
-    row-record region-file ascending none-final rows-checked next-rows lacking list-outcome
+    row-width row-record region-file ascending none-final rows-checked next-rows lacking list-outcome
     followed rows-followed following follow-answer follow-buffer
 examples =
     ((refl, refl, (accepted 8, refl, refl)), refl, refl, (refl, refl), (refl, refl), (refl, refl), (refl, refl), (refl, refl), refl, (refl, refl))

@@ -20,12 +20,13 @@ use Rattle.table_files.specs.Reading.{Read, good, bad, Reader, carry, done, nex
 use Rattle.table_files.specs.TableFile.{header, location, edge-record, table-file}
 use Rattle.table_files.specs.Admission.{admitted, admission}
 use Rattle.calls.specs.RunFile.{RunList, step-record, run-file, run-checked, run-answer}
-use Rattle.calls.specs.RegionFile.{row-record, region-file, rows-checked, list-outcome, judged, judged-over}
+use Rattle.calls.specs.RegionFile.{row-width, row-record, region-file, rows-checked, list-outcome, judged, judged-over}
 use Rattle.calls.specs.Follow.{rows-followed, following, follow-answer, written, follow-buffer}
 use Rattle.calls.specs.Program.{PrintedFor, Printed}
 use Rattle.table_files.proofs.Laws.Reading.{not-good, parts, between-law}
 use Rattle.table_files.proofs.Laws.Tables.{HeaderIn, header-in}
 use Rattle.table_files.proofs.Laws.Admission.{read-limits}
+use Rattle.calls.proofs.Laws.Rows.{row-width-is}
 
 -- the same, with more bytes after it
 abbrev longer : {A : Type 0} → List ℕ → Read A → Read A
@@ -199,10 +200,10 @@ module _ (T : Table) (few : clocks T ≤ 4) where
   local-row : (place : ℕ) → Local (row-record T place) 11
   unfolding row-record
   local-row place =
-      weaken _ (3 + 2 * clocks T + 0) 11
-      (local-then _ _ (3 + 2 * clocks T) 0 (local-record 7 place RW (3 + 2 * clocks T))
+      weaken _ (row-width (clocks T) + 0) 11
+      (local-then _ _ (row-width (clocks T)) 0 (local-record 7 place RW (row-width (clocks T)))
       (λ b _ _ _. local-test _ _ _ _ _ (λ _. local-test _ _ _ _ _ (λ _. local-done _))))
-      (omega arith)
+      (omega (arith, row-width-is (clocks T)))
 
   settled-run : Settled (run-file T) 49158
   unfolding run-file

@@ -16,20 +16,25 @@ use Rattle.automata.proofs.Laws.Ranks.{rank-le}
 use Rattle.automata.proofs.Laws.Rows.{isrowb-law}
 use Rattle.table_files.specs.Bytes.{AreBytes, RL, RW, two, two-bytes}
 use Rattle.table_files.specs.Reading.{good, end}
-use Rattle.calls.specs.RegionFile.{row-in, row-record, region-file, row-bytes, rows-bytes, list-bytes}
+use Rattle.calls.specs.RegionFile.{row-in, row-width, row-record, region-file, row-bytes, rows-bytes, list-bytes}
 use Rattle.table_files.specs.Meaning.{Limits}
 use Rattle.table_files.proofs.Laws.Bytes.{bytes-append, bytes-before, bytes-after, are-bytes, gather-bytes, byte-next, bytes-next, two-next, each-at}
 use Rattle.table_files.proofs.Laws.Reading.{parts, tested, ended, took-record, each-record, records-bytes, goes, passes, record-back, records-back}
 
+-- a row record's bytes: mark and location, then a byte for each clock's interval and rank
+pub row-width-is : (n : ℕ) → row-width n ≡ 3 + 2 * n
+unfolding row-width
+row-width-is n = refl
+
 -- one row --------------------------------------------------------------------------------------------------------------------
 
-row-whole : (n : ℕ) (b : List ℕ) → RW ≡ take 2 b → length b ≡ 3 + 2 * n → row-bytes (row-in n b) ≡ b
+row-whole : (n : ℕ) (b : List ℕ) → RW ≡ take 2 b → length b ≡ row-width n → row-bytes (row-in n b) ≡ b
 row-whole n b m e =
     (λ i. m i ++ (at b 2 ∷ (js ++ sym (append-nil ks) i)))
-    ∙ (λ i. take 2 b ++ (at b 2 ∷ (js ++ (ks ++ sym (drop-of-length-le b {i = 3 + n + n} (omega arith)) i))))
-    ∙ (λ i. take 2 b ++ (at b 2 ∷ (js ++ sym (bytes-next b (3 + n) n (omega arith)) i)))
-    ∙ (λ i. take 2 b ++ (at b 2 ∷ sym (bytes-next b 3 n (omega arith)) i))
-    ∙ (λ i. take 2 b ++ sym (byte-next b 2 (omega arith)) i)
+    ∙ (λ i. take 2 b ++ (at b 2 ∷ (js ++ (ks ++ sym (drop-of-length-le b {i = 3 + n + n} (omega (arith, row-width-is n))) i))))
+    ∙ (λ i. take 2 b ++ (at b 2 ∷ (js ++ sym (bytes-next b (3 + n) n (omega (arith, row-width-is n))) i)))
+    ∙ (λ i. take 2 b ++ (at b 2 ∷ sym (bytes-next b 3 n (omega (arith, row-width-is n))) i))
+    ∙ (λ i. take 2 b ++ sym (byte-next b 2 (omega (arith, row-width-is n))) i)
     ∙ take-append-drop 2 b
   where
     js : List ℕ
@@ -47,7 +52,7 @@ row-read T place f r left h =
     tested _ _ _ _ _ h2 λ t3 h3.
     let x : row-in (clocks T) b ≡ r = cc in
     let y : f1 ≡ left = cc in
-    let (k, m) = took-record 7 place RW (3 + 2 * clocks T) f e1 in
+    let (k, m) = took-record 7 place RW (row-width (clocks T)) f e1 in
     rw (← x, ← y) (
       record { location-in = ltb-true (at b 2) (T .locations) t2; is-row = isrowb-law (T .bounds) (row-in (clocks T) b) .0 t3 },
       k .whole ∙ ap (λ (l : List ℕ). l ++ f1) (sym (row-whole (clocks T) b m (k .sized))),
@@ -71,9 +76,9 @@ pub row-record-back : (T : Table) (place : ℕ) (r : Row) (rest : List ℕ) → 
 unfolding row-record
 row-record-back T place r rest R =
     let b : row-in (clocks T) (row-bytes r) ≡ r = row-back (clocks T) r (R .is-row .intervals-length) (R .is-row .ranks-length) in
-    let l : 3 + 2 * clocks T ≡ length (row-bytes r) =
-    omega (arith, length-append (r .intervals) (r .ranks), R .is-row .intervals-length, R .is-row .ranks-length) in
-    goes _ _ (row-bytes r) rest (record-back 7 place RW (3 + 2 * clocks T) (row-bytes r) rest l refl)
+    let l : row-width (clocks T) ≡ length (row-bytes r) =
+    omega (arith, row-width-is (clocks T), length-append (r .intervals) (r .ranks), R .is-row .intervals-length, R .is-row .ranks-length) in
+    goes _ _ (row-bytes r) rest (record-back 7 place RW (row-width (clocks T)) (row-bytes r) rest l refl)
     ∙ goes _ _ tt rest (passes 8 place (ltb (r .location) (T .locations)) rest (lt-ltb (r .location) (T .locations) (R .location-in)))
     ∙ goes _ _ tt rest (passes 8 place (isrowb (T .bounds) (row-in (clocks T) (row-bytes r))) rest (rw b (isrowb-law (T .bounds) r .1 (R .is-row))))
     ∙ ap (λ (x : Row). good x rest) b

@@ -13,7 +13,7 @@ use Rattle.table_files.specs.Reading.{carry, next-bytes, require, end, next-rec
 use Rattle.table_files.specs.TableFile.{header, location, edge-record, table-file}
 use Rattle.table_files.specs.Admission.{edges-bounded, admitted, admission}
 use Rattle.calls.specs.RunFile.{step-record, run-file, steps-taken, run-checked, run-answer}
-use Rattle.calls.specs.RegionFile.{row-record, region-file, ascending, none-final, rows-checked, exactly, list-outcome}
+use Rattle.calls.specs.RegionFile.{row-width, row-record, region-file, ascending, none-final, rows-checked, exactly, list-outcome}
 use Rattle.calls.specs.Follow.{followed, rows-followed, following, follow-answer}
 use Rattle.calls.proofs.Laws.Examples.{table, seven-rows, last-row, region-list, run-list, upd}
 
@@ -82,7 +82,7 @@ unfolding
     carry next-bytes require end next-record records
     header location edge-record table-file allb edges-bounded admitted admission
     answer holds step-record run-file steps-taken run-checked run-answer
-    openb heldb clockb isrowb someb row-record region-file ascending none-final rows-checked list-outcome
+    openb heldb clockb isrowb someb row-width row-record region-file ascending none-final rows-checked list-outcome
     evenb some-evenb entersb growsb leave-interval leave-rank left wait wait-rows followed rows-followed following follow-answer
 samples = record {
   bounds-last = refl;

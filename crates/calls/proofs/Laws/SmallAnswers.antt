@@ -12,7 +12,7 @@ use Rattle.automata.specs.Edge.{Edge}
 use Rattle.automata.specs.Automaton.{Table}
 use Rattle.automata.specs.Run.{State, Move}
 use Rattle.table_files.specs.Bytes.{TA, LO, ED, RN, ST, RL, RW, two}
-use Rattle.table_files.specs.Answer.{Answer, accepted, refused, packed}
+use Rattle.table_files.specs.Answer.{Answer, accepted, refused, refusals, packed}
 use Rattle.table_files.specs.Reading.{Read, good, bad, Reader, carry, done, next-bytes, require, end, next-record, records, answered}
 use Rattle.table_files.specs.TableFile.{header, location, edge-record, table-file}
 use Rattle.table_files.specs.Admission.{edges-bounded, admitted, record-count, admission}
@@ -29,7 +29,7 @@ use Rattle.calls.proofs.Laws.Runs.{run-read-law, run-few}
 
 -- a refusal with a place of at most m
 abbrev Slight : ℕ → ℕ → ℕ → Type 0
-Slight m number place = (1 ≤ number) × (number ≤ 19) × (place ≤ m)
+Slight m number place = (1 ≤ number) × (number ≤ refusals) × (place ≤ m)
 
 -- a reader that refuses so alone
 Tame : {A : Type 0} → Reader A → ℕ → Type 0

@@ -1,6 +1,7 @@
 use lib.ListN.{length}
 use Prim.Native.Nat.{_≤_, _-_}
 use borrow.Author.Needs.{needs}
+use Rattle.calls.proofs.Laws.Rows.{row-width-is}
 use Rattle.follow.proofs.print_rows.Statement.{statement}
 use Rattle.follow.proofs.print_rows.Tie as tie
 
@@ -10,11 +11,8 @@ Inv-loop bytes n count width at₀ i₀ t7 t8 at i = (at ≤ length bytes) × (i
 abbrev μ-loop : tie.MeasureT-loop
 μ-loop bytes n count width at₀ i₀ t7 t8 at i = count - i
 
-mul-width : tie.Need-mul-width Inv-loop μ-loop
-mul-width c = search needs
-
-add-width : tie.Need-add-width Inv-loop μ-loop
-add-width c = search needs
+row-width-requires : tie.Need-row-width-requires Inv-loop μ-loop
+row-width-requires c κs = search needs
 
 loop-holds : tie.Need-loop-holds Inv-loop μ-loop
 loop-holds c = search needs
@@ -41,7 +39,7 @@ part-print-numbers-start : tie.Need-part-print-numbers-start Inv-loop μ-loop
 part-print-numbers-start c = search needs
 
 part-print-numbers-end : tie.Need-part-print-numbers-end Inv-loop μ-loop
-part-print-numbers-end c = search needs
+part-print-numbers-end c = let w = row-width-is (c .before .before .before .before .before .args .n) in search needs
 
 print-numbers-requires : tie.Need-print-numbers-requires Inv-loop μ-loop
 print-numbers-requires c κs = search needs
@@ -62,10 +60,10 @@ add-print-numbers-6 : tie.Need-add-print-numbers-6 Inv-loop μ-loop
 add-print-numbers-6 c = search needs
 
 sub-print-numbers-2 : tie.Need-sub-print-numbers-2 Inv-loop μ-loop
-sub-print-numbers-2 c = search needs
+sub-print-numbers-2 c = let w = row-width-is (c .before .before .before .before .before .before .before .before .before .args .n) in search needs
 
 part-print-numbers-start-2 : tie.Need-part-print-numbers-start-2 Inv-loop μ-loop
-part-print-numbers-start-2 c = search needs
+part-print-numbers-start-2 c = let w = row-width-is (c .before .before .before .before .before .before .before .before .before .args .n) in search needs
 
 part-print-numbers-end-2 : tie.Need-part-print-numbers-end-2 Inv-loop μ-loop
 part-print-numbers-end-2 c = search needs
@@ -100,8 +98,7 @@ print-rows-spec =
     (tie.spec
     Inv-loop
     μ-loop
-    mul-width
-    add-width
+    row-width-requires
     loop-holds
     sub-if1
     returns

@@ -25,15 +25,16 @@ use Rattle.automata.proofs.Laws.Tests.{never}
 use Rattle.automata.proofs.Laws.Waiting.{wait-row}
 use Rattle.automata.proofs.Laws.Successors.{edge-rows-law}
 use Rattle.table_files.specs.Answer.{Answer, accepted, refused}
-use Rattle.calls.specs.RegionFile.{row-bytes, rows-bytes}
+use Rattle.calls.specs.RegionFile.{row-width, row-bytes, rows-bytes}
+use Rattle.calls.proofs.Laws.Rows.{row-width-is}
 use Rattle.following.specs.Following.{Stands, Leaves, rows-waited, rows-led, fits, told, put}
 use Rattle.rows.proofs.Laws.Writing.{rest-next}
 use Rattle.following.proofs.Laws.Stepping.{Sized, Listed, Stepped, Found, all-found, one-found}
 
 -- the bytes of rows ------------------------------------------------------------------------------------------------------------
 
-pub row-long : (n : ℕ) (r : Row) → Sized n r → length (row-bytes r) ≡ 3 + 2 * n
-row-long n r s = omega (arith, length-append (r .intervals) (r .ranks), s .intervals-length, s .ranks-length)
+pub row-long : (n : ℕ) (r : Row) → Sized n r → length (row-bytes r) ≡ row-width n
+row-long n r s = omega (arith, row-width-is n, length-append (r .intervals) (r .ranks), s .intervals-length, s .ranks-length)
 
 rows-append : (xs ys : List Row) → rows-bytes (xs ++ ys) ≡ rows-bytes xs ++ rows-bytes ys
 rows-append [] ys = refl
@@ -52,7 +53,7 @@ module _ (n : ℕ) (rows : List Row) (L : Listed n rows) (next : Sought) (i : �
       ∙ rows-append (take i rows) (row-of n (next .region) ∷ [])
       ∙ ap (λ (l : List ℕ). rows-bytes (take i rows) ++ l) (append-nil (row-bytes (row-of n (next .region))))
 
-  front-long : length (rows-bytes (take (i + 1) rows)) ≡ length (rows-bytes (take i rows)) + (3 + 2 * n)
+  front-long : length (rows-bytes (take (i + 1) rows)) ≡ length (rows-bytes (take i rows)) + row-width n
   front-long =
       let r : Row = row-of n (next .region) in
       ap length front-more ∙ length-append (rows-bytes (take i rows)) (row-bytes r) ∙ ap (λ (k : ℕ). length (rows-bytes (take i rows)) + k) (row-long n r (L .sized r (F .in-rows)))
@@ -84,11 +85,11 @@ module _ (n : ℕ) (rows : List Row) (L : Listed n rows) (room : ℕ) (floor nex
     found : Found n rows next (C .count)
     found = one-found n rows L floor next (C .count) (C .stepped) e f
 
-    pub too-many : left < 3 + 2 * n → false ≡ fits rows room
+    pub too-many : left < row-width n → false ≡ fits rows room
     too-many h =
         sym (lt-leb (length (rows-bytes rows)) room (omega (arith, C .spent, front-long n rows L next (C .count) found, front-short rows (C .count + 1))))
 
-    pub more-counted : 3 + 2 * n ≤ left → Counted n rows room next (left - (3 + 2 * n))
+    pub more-counted : row-width n ≤ left → Counted n rows room next (left - (row-width n))
     more-counted h = record {
       count = C .count + 1;
       stepped = found .stepped;
@@ -121,26 +122,26 @@ module _ (n : ℕ) (rows : List Row) (L : Listed n rows) (o buffer : List ℕ) (
     found-next : Found n rows next count
     found-next = one-found n rows L floor next count (C .stepped) e f
 
-    pub room-next : place + (3 + 2 * n) ≤ length o
+    pub room-next : place + row-width n ≤ length o
     room-next = omega (arith, C .place-is, front-long n rows L next count found-next, front-short rows (count + 1))
 
     pub wide-next : (z : ℕ) → z < n → at (next .region .intervals) z < 256
     wide-next = bytes-wide n rows L next count found-next
 
-    pub more-copied : (w : List ℕ) → w ≡ row-bytes (row-of n (next .region)) ++ drop (3 + 2 * n) (take (length buffer - place) (drop place buffer))
-        → Copied n rows o (take place buffer ++ (w ++ drop (length buffer - place) (drop place buffer))) next (place + (3 + 2 * n)) (count + 1)
+    pub more-copied : (w : List ℕ) → w ≡ row-bytes (row-of n (next .region)) ++ drop (row-width n) (take (length buffer - place) (drop place buffer))
+        → Copied n rows o (take place buffer ++ (w ++ drop (length buffer - place) (drop place buffer))) next (place + row-width n) (count + 1)
     more-copied w g =
         let r : Row = row-of n (next .region) in
-        let out : take place buffer ++ (w ++ drop (length buffer - place) (drop place buffer)) ≡ rows-bytes (take (count + 1) rows) ++ drop (place + (3 + 2 * n)) o =
-        rest-next (rows-bytes (take count rows)) o buffer w (row-bytes r) place (3 + 2 * n) (C .place-is) (C .out-is) g
-        ∙ ap (λ (l : List ℕ). l ++ drop (place + (3 + 2 * n)) o) (sym (front-more n rows L next count found-next)) in
-        let further : length (rows-bytes (take (count + 1) rows)) ≡ place + (3 + 2 * n) = front-long n rows L next count found-next ∙ ap (λ (k : ℕ). k + (3 + 2 * n)) (C .place-is) in
+        let out : take place buffer ++ (w ++ drop (length buffer - place) (drop place buffer)) ≡ rows-bytes (take (count + 1) rows) ++ drop (place + row-width n) o =
+        rest-next (rows-bytes (take count rows)) o buffer w (row-bytes r) place (row-width n) (C .place-is) (C .out-is) g
+        ∙ ap (λ (l : List ℕ). l ++ drop (place + row-width n) o) (sym (front-more n rows L next count found-next)) in
+        let further : length (rows-bytes (take (count + 1) rows)) ≡ place + row-width n = front-long n rows L next count found-next ∙ ap (λ (k : ℕ). k + row-width n) (C .place-is) in
         record {
           stepped = found-next .stepped;
           place-is = further;
           out-is = out;
           long = ap length out ∙ simp (length-append, length-drop) (omega (arith, further, room-next));
-          few = omega (arith, C .few);
+          few = omega (arith, C .few, row-width-is n);
         }
 
 -- the rows of an edge and of a wait ----------------------------------------------------------------------------------------------
@@ -203,7 +204,7 @@ module _ (k : clocks-code.Clocks) (four : length (k .bounds) ≡ 4) (r : Region)
   none-waited o f = rw (no-row f) (fitted [] o o 0 (sym (le-leb 0 (length o) (omega arith))) refl refl)
 
   module _ (f : next .found ≡ true) where
-    one-long : length (rows-bytes (rows-waited k r)) ≡ 3 + 2 * k .count
+    one-long : length (rows-bytes (rows-waited k r)) ≡ row-width (k .count)
     one-long =
         let (is-one, size) = one-row f in
         ap (λ (l : List Row). length (rows-bytes l)) is-one
@@ -213,11 +214,11 @@ module _ (k : clocks-code.Clocks) (four : length (k .bounds) ≡ 4) (r : Region)
     pub wide-waited : (z : ℕ) → z < k .count → at (next .region .intervals) z < 256
     wide-waited z h = rw (getD-take (k .count) (next .region .intervals) z 0 h) at (one-row f .1 .narrow z h)
 
-    pub short-waited : (o : List ℕ) → length o < 3 + 2 * k .count → Done (rows-waited k r) o (refused 19 0) o
+    pub short-waited : (o : List ℕ) → length o < row-width (k .count) → Done (rows-waited k r) o (refused 19 0) o
     short-waited o h = not-fitted (rows-waited k r) o (sym (lt-leb (length (rows-bytes (rows-waited k r))) (length o) (omega (arith, one-long))))
 
-    pub one-waited : (o after : List ℕ) → 3 + 2 * k .count ≤ length o
-        → after ≡ row-bytes (row-of (k .count) (next .region)) ++ drop (3 + 2 * k .count) o → Done (rows-waited k r) o (accepted 1) after
+    pub one-waited : (o after : List ℕ) → row-width (k .count) ≤ length o
+        → after ≡ row-bytes (row-of (k .count) (next .region)) ++ drop (row-width (k .count)) o → Done (rows-waited k r) o (accepted 1) after
     one-waited o after h w =
         let is-one = one-row f .0 in
         fitted (rows-waited k r) o after 1 (sym (le-leb (length (rows-bytes (rows-waited k r))) (length o) (omega (arith, one-long))))

@@ -26,6 +26,7 @@ use Rattle.table_records.specs.declared.head.Head.{Head}
 use Rattle.table_records.specs.declared.head.Opened.{Opened}
 use Rattle.table_files.proofs.Laws.Reading.{goes, passes}
 use Rattle.table_files.proofs.Laws.Admission.{admission-read, admission-admitted, admission-limits}
+use Rattle.calls.specs.RegionFile.{row-width}
 use Rattle.calls.specs.Follow.{followed, rows-followed, following, follow-answer, written, follow-buffer}
 use Rattle.calls.specs.Meaning.{Small, Written}
 use Rattle.rows.specs.Row.{ReadsRow}
@@ -124,17 +125,17 @@ module _ (table row : List ℕ) (number : ℕ) (buffer : List ℕ) where
         from = row-of (clocks T) (r .region)
 
         abbrev left : List ℕ
-        left = drop (0 + (3 + 2 * clocks T)) row
+        left = drop (0 + row-width (clocks T)) row
 
-        left-long : length left ≡ length row - (3 + 2 * head .clocks .count)
-        left-long = simp length-drop (omega (arith, D .count))
+        left-long : length left ≡ length row - (row-width (head .clocks .count))
+        left-long = simp length-drop (omega (arith, ap row-width (D .count)))
 
-        pub bytes-follow : 3 + 2 * head .clocks .count < length row → Follower table row number buffer (refused 9 1) buffer
+        pub bytes-follow : row-width (head .clocks .count) < length row → Follower table row number buffer (refused 9 1) buffer
         unfolding rows-followed
         bytes-follow h =
             refusing 9 1 (past-table ∙ goes _ _ from left (reads-good T row 0 r R z 0) ∙ stops _ _ _ _ (bytes-left 9 1 left (omega (arith, left-long))))
 
-        module _ (whole : length row ≤ 3 + 2 * head .clocks .count) where
+        module _ (whole : length row ≤ row-width (head .clocks .count)) where
           no-left : end 9 1 left ≡ good tt left
           no-left = no-bytes-left 9 1 left (omega (arith, left-long))
 

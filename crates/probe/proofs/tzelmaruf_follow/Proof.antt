@@ -6,51 +6,39 @@ use borrow.Author.Needs.{needs}
 use Rattle.probe.proofs.tzelmaruf_follow.Statement.{statement}
 use Rattle.probe.proofs.tzelmaruf_follow.Tie as tie
 
--- src/lib.rt:14:11
 follow-requires : tie.Need-follow-requires
 follow-requires c κs = search needs
 
--- src/lib.rt:15:27
 enum-known-count : tie.Need-enum-known-count
 enum-known-count c = search needs
 
--- src/lib.rt:16:27
 enum-known-number : tie.Need-enum-known-number
 enum-known-number c = search needs
 
--- src/lib.rt:17:16
 cast-result : tie.Need-cast-result
 cast-result c = search needs
 
--- src/lib.rt:17:15
 mul-result : tie.Need-mul-result
 mul-result c = search needs
 
--- src/lib.rt:16:45
 add-result : tie.Need-add-result
 add-result c = search needs
 
--- src/lib.rt:18:16
 cast-result-2 : tie.Need-cast-result-2
 cast-result-2 c = search needs
 
--- src/lib.rt:16:45
 add-result-2 : tie.Need-add-result-2
 add-result-2 c = search needs
 
--- src/lib.rt:9:1
 same-length : tie.Need-same-length
 same-length c = search needs
 
--- src/lib.rt:9:1
 returns : tie.Need-returns
 returns c = let e = c .before .before .before .before .before .follow .ensures in (ap (λ (f : Followed). number-of (answer-of f)) (sym (c .before .count .given .1)) ∙ ap number-of (e .0), e .1 .0)
 
--- src/lib.rt:9:1
 same-length-2 : tie.Need-same-length-2
 same-length-2 c = search needs
 
--- src/lib.rt:9:1
 returns-2 : tie.Need-returns-2
 returns-2 c = let e = c .before .before .before .before .before .follow .ensures in (ap (λ (f : Followed). number-of (answer-of f)) (sym (c .before .number .given .1)) ∙ ap number-of (e .0), e .1 .0)
 

@@ -16,7 +16,8 @@ use Rattle.table_files.specs.Bytes.{RL, RW, two}
 use Rattle.table_files.specs.Records.{record-at}
 use Rattle.table_files.specs.Reading.{Read, good, bad, carry, done, require, next-record, records, end}
 use Rattle.table_files.proofs.Laws.Reading.{parts, tested, took-record}
-use Rattle.calls.specs.RegionFile.{row-in, row-record, region-file, rows-read, rows-of}
+use Rattle.calls.proofs.Laws.Rows.{row-width-is}
+use Rattle.calls.specs.RegionFile.{row-width, row-in, row-record, region-file, rows-read, rows-of}
 use Rattle.region_lists.specs.Listed.{listed-row, listed-rows}
 use Rattle.calls.proofs.Laws.RecordReads.{record-missing, record-there, record-length}
 use Rattle.region_lists.proofs.Laws.Listed.{listed-length}
@@ -44,7 +45,7 @@ module _ {A : Type 0} where
 -- so many of the row records are read: what is left to read, and the position it starts at
 pub record RowsSoFar (T : Table) (list : List ℕ) (count p i : ℕ) : Type 0 where
   pub few : i ≤ count
-  pub position : p ≡ 4 + i * (3 + 2 * clocks T)
+  pub position : p ≡ 4 + i * row-width (clocks T)
   pub low : p ≤ 4 + 11 * i
   pub front : List Row
   pub so-far : records (row-record T) 1 count (drop 4 list) ≡ carry (records (row-record T) (i + 1) (count - i) (drop p list)) (λ more. done (front ++ more))
@@ -72,7 +73,7 @@ rows-begin T list count = record {
 module _ (T : Table) (list : List ℕ) (count p i : ℕ) (S : RowsSoFar T list count p i) where
   module _ (l : i < count) where
     -- one record more
-    pub rows-on : (row : Row) (w : ℕ) → w ≡ 3 + 2 * clocks T → clocks T ≤ 4 → row-record T (i + 1) (drop p list) ≡ good row (drop (p + (3 + 2 * clocks T)) list)
+    pub rows-on : (row : Row) (w : ℕ) → w ≡ row-width (clocks T) → clocks T ≤ 4 → row-record T (i + 1) (drop p list) ≡ good row (drop (p + row-width (clocks T)) list)
         → RowsSoFar T list count (p + w) (i + 1)
     unfolding records carry
     rows-on row w e few h =
@@ -80,9 +81,9 @@ module _ (T : Table) (list : List ℕ) (count p i : ℕ) (S : RowsSoFar T list c
         record {
           few = omega arith;
           position = rw (add-mul, one-mul) (omega (arith, S .position));
-          low = omega (arith, S .low);
+          low = omega (arith, S .low, row-width-is (clocks T));
           front = S .front ++ (row ∷ []);
-          so-far = S .so-far ∙ rw (q, h, e) (carry-twice (records (row-record T) (i + 1 + 1) (count - (i + 1)) (drop (p + (3 + 2 * clocks T)) list)) (S .front) row);
+          so-far = S .so-far ∙ rw (q, h, e) (carry-twice (records (row-record T) (i + 1 + 1) (count - (i + 1)) (drop (p + row-width (clocks T)) list)) (S .front) row);
         }
 
     -- the first that is refused refuses them all
@@ -100,7 +101,7 @@ module _ (T : Table) (list : List ℕ) (count p i : ℕ) (S : RowsSoFar T list c
 -- what was read stands in the file, record after record ---------------------------------------------------------------------------------
 
 row-there : (T : Table) (place : ℕ) (f : List ℕ) (r : Row) (left : List ℕ) → row-record T place f ≡ good r left
-    → (3 + 2 * clocks T ≤ length f) × (r ≡ row-in (clocks T) (take (3 + 2 * clocks T) f)) × (left ≡ drop (3 + 2 * clocks T) f)
+    → (row-width (clocks T) ≤ length f) × (r ≡ row-in (clocks T) (take (row-width (clocks T)) f)) × (left ≡ drop (row-width (clocks T)) f)
 unfolding row-record
 row-there T place f r left h =
     parts _ _ h λ b f1 e1 h1.
@@ -108,27 +109,27 @@ row-there T place f r left h =
     tested _ _ _ _ _ h2 λ t3 h3.
     let x : row-in (clocks T) b ≡ r = cc in
     let y : f1 ≡ left = cc in
-    let (k, m) = took-record 7 place RW (3 + 2 * clocks T) f e1 in (
+    let (k, m) = took-record 7 place RW (row-width (clocks T)) f e1 in (
       omega (arith, k .sized, simp length-append at (ap length (k .whole))),
-      sym x ∙ ap (row-in (clocks T)) (sym (ap (take (3 + 2 * clocks T)) (k .whole) ∙ take-at b f1 (3 + 2 * clocks T) (k .sized))),
-      sym y ∙ sym (ap (drop (3 + 2 * clocks T)) (k .whole) ∙ drop-at b f1 (3 + 2 * clocks T) (k .sized)),
+      sym x ∙ ap (row-in (clocks T)) (sym (ap (take (row-width (clocks T))) (k .whole) ∙ take-at b f1 (row-width (clocks T)) (k .sized))),
+      sym y ∙ sym (ap (drop (row-width (clocks T))) (k .whole) ∙ drop-at b f1 (row-width (clocks T)) (k .sized)),
     )
 
 -- n rows from row i on
-rows-there : (T : Table) (list : List ℕ) (place n i : ℕ) (rows : List Row) (rest : List ℕ) → 4 + i * (3 + 2 * clocks T) ≤ length list
-    → records (row-record T) place n (drop (4 + i * (3 + 2 * clocks T)) list) ≡ good rows rest
-    → (rows ≡ map (listed-row (clocks T) list) (from i n)) × (4 + (i + n) * (3 + 2 * clocks T) ≤ length list) × (rest ≡ drop (4 + (i + n) * (3 + 2 * clocks T)) list)
+rows-there : (T : Table) (list : List ℕ) (place n i : ℕ) (rows : List Row) (rest : List ℕ) → 4 + i * row-width (clocks T) ≤ length list
+    → records (row-record T) place n (drop (4 + i * row-width (clocks T)) list) ≡ good rows rest
+    → (rows ≡ map (listed-row (clocks T) list) (from i n)) × (4 + (i + n) * row-width (clocks T) ≤ length list) × (rest ≡ drop (4 + (i + n) * row-width (clocks T)) list)
 unfolding records listed-row
 rows-there T list place zero i rows rest room h =
     let x : [] ≡ rows = cc in
-    let y : drop (4 + i * (3 + 2 * clocks T)) list ≡ rest = cc in
+    let y : drop (4 + i * row-width (clocks T)) list ≡ rest = cc in
     rw (add-zero i) (sym x, room, sym y)
 rows-there T list place (suc n) i rows rest room h =
     parts _ _ h λ a f1 e1 h1.
     parts _ _ h1 λ more f2 e2 h2.
     let x : a ∷ more ≡ rows = cc in
     let y : f2 ≡ rest = cc in
-    let w : ℕ = 3 + 2 * clocks T in
+    let w : ℕ = row-width (clocks T) in
     let (fits, row, left) = row-there T place (drop (4 + i * w) list) a f1 e1 in
     let next : 4 + i * w + w ≡ 4 + (i + 1) * w = rw (add-mul, one-mul) (omega arith) in
     let f1-is : f1 ≡ drop (4 + (i + 1) * w) list = left ∙ drop-drop w (4 + i * w) list ∙ ap (λ (k : ℕ). drop k list) next in
@@ -139,13 +140,13 @@ rows-there T list place (suc n) i rows rest room h =
 
 abbrev pub Rows-there : Table → List ℕ → ℕ → List Row → List ℕ → Type 0
 Rows-there T list n rows rest =
-    (rows ≡ listed-rows (clocks T) list n) × (4 + n * (3 + 2 * clocks T) ≤ length list) × (rest ≡ drop (4 + n * (3 + 2 * clocks T)) list)
+    (rows ≡ listed-rows (clocks T) list n) × (4 + n * row-width (clocks T) ≤ length list) × (rest ≡ drop (4 + n * row-width (clocks T)) list)
 
 pub all-there : (T : Table) (list : List ℕ) (n : ℕ) (rows : List Row) (rest : List ℕ) → 4 ≤ length list
     → records (row-record T) 1 n (drop 4 list) ≡ good rows rest → Rows-there T list n rows rest
 unfolding listed-rows
 all-there T list n rows rest room h =
-    let start : 4 + 0 * (3 + 2 * clocks T) ≡ 4 = omega arith in
+    let start : 4 + 0 * row-width (clocks T) ≡ 4 = omega arith in
     rw zero-add at (rows-there T list 1 n 0 rows rest (rw start room) (rw start h))
 
 -- the file -----------------------------------------------------------------------------------------------------------------------------
@@ -188,12 +189,12 @@ module _ (T : Table) (list : List ℕ) where
         pub list-there : Rows-there T list (two list-head 2) rows rest
         list-there = all-there T list (two list-head 2) rows rest (record-there list RL 0 4 7 0 (omega arith) refl h .0) e
 
-        pub list-more : 4 + two list-head 2 * (3 + 2 * clocks T) < length list → region-file T list ≡ bad 9 (1 + two list-head 2)
+        pub list-more : 4 + two list-head 2 * row-width (clocks T) < length list → region-file T list ≡ bad 9 (1 + two list-head 2)
         unfolding region-file carry require
         list-more l =
             rw (there, counted, e, end-more 9 (1 + two list-head 2) rest (rw (list-there .2, length-drop) (omega arith)))
 
-        pub list-read : length list ≤ 4 + two list-head 2 * (3 + 2 * clocks T) → region-file T list ≡ good rows rest
+        pub list-read : length list ≤ 4 + two list-head 2 * row-width (clocks T) → region-file T list ≡ good rows rest
         unfolding region-file carry require
         list-read l =
             rw (there, counted, e, end-none 9 (1 + two list-head 2) rest (rw (list-there .2, length-drop) (omega arith)))
@@ -201,8 +202,8 @@ module _ (T : Table) (list : List ℕ) where
 -- the same, of the code's values ---------------------------------------------------------------------------------------------------------
 
 -- the rows of a list are few, and so are its bytes
-pub few-bytes : (count n : ℕ) → count ≤ 4096 → n ≤ 4 → count * (3 + 2 * n) ≤ 45056
-few-bytes count n h k = let m : count * (3 + 2 * n) ≤ 4096 * (3 + 2 * n) = mul-le-mul-right (3 + 2 * n) h in omega arith
+pub few-bytes : (count n : ℕ) → count ≤ 4096 → n ≤ 4 → count * row-width n ≤ 45056
+few-bytes count n h k = let m : count * row-width n ≤ 4096 * row-width n = mul-le-mul-right (row-width n) h in omega (arith, row-width-is n)
 
 -- how the reading of a list ended, with the count of its rows
 abbrev pub ListTold : Table → List ℕ → ℕ → ℕ → ℕ → Type 0
@@ -242,15 +243,15 @@ module _ (T : Table) (list header : List ℕ) (e : header ≡ record-at list 0 4
           rows-good : (rows : List Row) × (rest : List ℕ) × (records (row-record T) 1 (two (list-head T list) 2) (drop 4 list) ≡ good rows rest)
           rows-good = rw count-is at (was-good (records (row-record T) 1 count (drop 4 list)) number place t z)
 
-          end-is : 4 + count * (3 + 2 * n) ≡ 4 + two (list-head T list) 2 * (3 + 2 * clocks T)
-          end-is = λ i. 4 + count-is i * (3 + 2 * clocks-are i)
+          end-is : 4 + count * row-width n ≡ 4 + two (list-head T list) 2 * row-width (clocks T)
+          end-is = λ i. 4 + count-is i * row-width (clocks-are i)
 
-          pub bytes-follow : 4 + count * (3 + 2 * n) < length list → ListTold T list 9 (1 + count) 0
+          pub bytes-follow : 4 + count * row-width n < length list → ListTold T list 9 (1 + count) 0
           bytes-follow l =
               let (rows, rest, g) = rows-good in
               list-told-bad T list 9 (1 + count) 0 (λ z. omega arith) (rw count-is (list-more T list some-head few-rows rows rest g (rw end-is at l)))
 
-          pub all-read : length list ≤ 4 + count * (3 + 2 * n) → ListTold T list 0 0 count
+          pub all-read : length list ≤ 4 + count * row-width n → ListTold T list 0 0 count
           unfolding rows-of
           all-read l =
               let (rows, rest, g) = rows-good in

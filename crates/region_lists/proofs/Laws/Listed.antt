@@ -18,7 +18,7 @@ use Rattle.automata.proofs.Laws.Order.{Tri, is-lt, is-eq, is-gt, tri}
 use Rattle.automata.proofs.Laws.Tests.{fails, refutes}
 use Rattle.automata.proofs.Laws.Members.{getD-in, in-getD}
 use Rattle.automata.proofs.Laws.Checks.{same-row-law, belowb-law, has-law}
-use Rattle.region_lists.specs.Listed.{listed-row, listed-rows, Splits}
+use Rattle.region_lists.specs.Listed.{listed-bytes, listed-row, listed-rows, Splits}
 use Rattle.rows.proofs.Laws.RowRecords.{row-in-back}
 use Rattle.automata.proofs.Laws.Ordered.{below-trans, below-itself, ascends-sorted, sorted-at}
 
@@ -29,7 +29,7 @@ row-room s count i len h l = let m : suc i * s ≤ count * s = mul-le-mul-right 
 -- the row that was read again
 pub listed-again : (n : ℕ) (list : List ℕ) (i : ℕ) (r : Region) → r ≡ region-of (listed-row n list i) → row-of n r ≡ listed-row n list i
 unfolding listed-row
-listed-again n list i r e = ap (row-of n) e ∙ row-in-back n (take (3 + 2 * n) (drop (4 + i * (3 + 2 * n)) list))
+listed-again n list i r e = ap (row-of n) e ∙ row-in-back n (listed-bytes n list i)
 
 -- rows by number -------------------------------------------------------------------------------------------------------------------
 

@@ -5,8 +5,8 @@ use native.Mathlib.Omega.{arith}
 use mathlib.Core.Path.{_≡_, refl, sym, ap, _∙_}
 use mathlib.Core.Bool.{false}
 use mathlib.Core.List.{List, _++_}
-use lib.ListN.{length, take, drop, length-append, List·getD-append}
-use lib.Seq.{getD-take, getD-drop, getD-append-add}
+use lib.ListN.{length, drop, length-append, length-drop, List·getD-append}
+use lib.Seq.{length-take-le, getD-append-add}
 use lib.Dec.{eqb, ltb}
 use borrow.Author.Tests.{le-ltb}
 use Rattle.automata.specs.Clocks.{at, each}
@@ -17,8 +17,9 @@ use Rattle.regions.specs.declared.region.Region.{Region}
 use Rattle.automata.proofs.Laws.Lists.{length-each, at-each}
 use Rattle.regions.proofs.Laws.Values.{at-out, length-first}
 use Rattle.regions.proofs.Laws.OrderTests.{same-shared, before-shared, Shared, shared-on, shared-here, shared-all, row-same, row-below, length-numbers}
-use Rattle.calls.specs.RegionFile.{row-in}
-use Rattle.region_lists.specs.Listed.{listed-row}
+use Rattle.calls.specs.RegionFile.{row-in, row-width}
+use Rattle.calls.proofs.Laws.Rows.{row-width-is}
+use Rattle.region_lists.specs.Listed.{listed-bytes, HasRow, listed-row}
 
 -- number j of the row in some bytes
 module _ (n : ℕ) (b : List ℕ) where
@@ -53,17 +54,19 @@ module _ (n : ℕ) (b : List ℕ) where
 
 module _ (n : ℕ) (list : List ℕ) (i : ℕ) where
   -- .. of row i of a list
-  pub listed-number : (j : ℕ) → j < 1 + 2 * n → at (numbers (listed-row n list i)) j ≡ at list (6 + i * (3 + 2 * n) + j)
+  pub listed-number : (j : ℕ) → j < 1 + 2 * n → at (numbers (listed-row n list i)) j ≡ at (listed-bytes n list i) (2 + j)
   unfolding listed-row
-  listed-number j h =
-      let w : 4 + i * (3 + 2 * n) + (2 + j) ≡ 6 + i * (3 + 2 * n) + j = omega arith in
-      row-number n (take (3 + 2 * n) (drop (4 + i * (3 + 2 * n)) list)) j h
-      ∙ getD-take (3 + 2 * n) (drop (4 + i * (3 + 2 * n)) list) (2 + j) 0 (omega arith)
-      ∙ getD-drop (4 + i * (3 + 2 * n)) list (2 + j) 0
-      ∙ ap (at list) w
+  listed-number j h = row-number n (listed-bytes n list i) j h
 
-  pub listed-location : at list (6 + i * (3 + 2 * n)) ≡ listed-row n list i .location
-  listed-location = let w : 6 + i * (3 + 2 * n) ≡ 6 + i * (3 + 2 * n) + 0 = omega arith in ap (at list) w ∙ sym (listed-number 0 (omega arith))
+  pub listed-location : at (listed-bytes n list i) 2 ≡ listed-row n list i .location
+  unfolding listed-row
+  listed-location = refl
+
+  -- what the code reads is there
+  pub bytes-long : HasRow n list i → length (listed-bytes n list i) ≡ 3 + 2 * n
+  bytes-long h =
+      let room : row-width n ≤ length (drop (4 + i * row-width n) list) = simp length-drop (omega arith) in
+      length-take-le (row-width n) (drop (4 + i * row-width n) list) room ∙ row-width-is n
 
   pub intervals-long : length (listed-row n list i .intervals) ≡ n
   unfolding listed-row
@@ -92,7 +95,7 @@ module _ (n : ℕ) (list : List ℕ) (i : ℕ) where
     alike = numbers-long ∙ sym theirs-long
 
     -- number by number, where j are shared; x is the byte that the code reads, y the region's number
-    module _ (j : ℕ) (s : Shared ours theirs j) (x y : ℕ) (p : x ≡ at list (6 + i * (3 + 2 * n) + j)) (q : y ≡ at theirs j) where
+    module _ (j : ℕ) (s : Shared ours theirs j) (x y : ℕ) (p : x ≡ at (listed-bytes n list i) (2 + j)) (q : y ≡ at theirs j) where
       pub byte-shared : j < 1 + 2 * n → x ≡ y → Shared ours theirs (j + 1)
       byte-shared h e = shared-on ours theirs alike j s (omega (arith, numbers-long)) (listed-number j h ∙ sym p ∙ e ∙ q)
 
@@ -112,7 +115,7 @@ module _ (n : ℕ) (list : List ℕ) (i : ℕ) where
       first-decides : ltb (at ours j) (at theirs j) ≡ belowb (listed-row n list i) (row-of n w)
       first-decides = ap (λ (k : ℕ). ltb (at ours k) (at theirs k)) e ∙ before-shared ours theirs alike ∙ row-below (listed-row n list i) (row-of n w) rows-alike
 
-      pub listed-is-below : (x y : ℕ) → x ≡ at list (6 + i * (3 + 2 * n) + j) → y ≡ at theirs j → j < 1 + 2 * n
+      pub listed-is-below : (x y : ℕ) → x ≡ at (listed-bytes n list i) (2 + j) → y ≡ at theirs j → j < 1 + 2 * n
           → ltb x y ≡ belowb (listed-row n list i) (row-of n w)
       listed-is-below x y p q h = (λ k. ltb ((p ∙ sym (listed-number j h)) k) (q k)) ∙ first-decides
 

@@ -24,7 +24,7 @@ use Rattle.table_files.specs.Admission.{table-of}
 use Rattle.tables.specs.Values.{Describes}
 use Rattle.table_records.specs.declared.head.Head.{Head}
 use Rattle.table_files.proofs.Laws.Reading.{parts, tested, took-record}
-use Rattle.calls.specs.RegionFile.{region-file, rows-read, rows-of, ascending, none-final, rows-checked, lacking, concluded, judged, Permits}
+use Rattle.calls.specs.RegionFile.{row-width, region-file, rows-read, rows-of, ascending, none-final, rows-checked, lacking, concluded, judged, Permits}
 use Rattle.region_lists.specs.Listed.{listed-row, listed-rows, Listed}
 use Rattle.region_lists.specs.RegionList.{Told, passed, by-edges, NextListed}
 use Rattle.calls.proofs.Laws.Rows.{rows-read-law}
@@ -36,7 +36,7 @@ use Rattle.calls.proofs.Laws.RegionLists.{ascends}
 
 -- the rows that were read are those that stand in the file
 region-there : (T : Table) (list : List ℕ) (rows : List Row) (rest : List ℕ) → region-file T list ≡ good rows rest
-    → (rows ≡ listed-rows (clocks T) list (length rows)) × (4 + length rows * (3 + 2 * clocks T) ≤ length list)
+    → (rows ≡ listed-rows (clocks T) list (length rows)) × (4 + length rows * row-width (clocks T) ≤ length list)
 unfolding region-file
 region-there T list rows rest h =
     parts _ _ h λ b f1 e1 h1.

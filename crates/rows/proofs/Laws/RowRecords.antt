@@ -21,10 +21,10 @@ use Rattle.table_files.specs.Records.{record-at}
 use Rattle.table_files.specs.Admission.{table-of}
 use Rattle.tables.specs.Values.{Describes}
 use Rattle.table_records.specs.declared.head.Head.{Head}
-use Rattle.calls.specs.RegionFile.{row-in, row-record}
+use Rattle.calls.specs.RegionFile.{row-in, row-width, row-record}
 use Rattle.rows.specs.Row.{RowTold, ReadsRow}
 use Rattle.rows.specs.declared.row.RowRead.{RowRead}
-use Rattle.calls.proofs.Laws.Rows.{row-read}
+use Rattle.calls.proofs.Laws.Rows.{row-width-is, row-read}
 use Rattle.calls.proofs.Laws.RecordReads.{record-missing, record-there, record-length}
 
 -- a row and its region -------------------------------------------------------------------------------------------------------------
@@ -36,15 +36,15 @@ row-in-back n b = row-region n (row-in n b) (length-each n _) (length-each n _)
 
 module _ (T : Table) (file : List ℕ) (p : ℕ) where
   abbrev pub row-part : List ℕ
-  row-part = record-at file p (3 + 2 * clocks T) RW
+  row-part = record-at file p (row-width (clocks T)) RW
 
   pub row-missing : length row-part ≡ 0 → (place : ℕ) → row-record T place (drop p file) ≡ bad 7 place
   unfolding row-record carry
-  row-missing h place = rw (record-missing file RW p (3 + 2 * clocks T) 7 place (omega arith) refl h)
+  row-missing h place = rw (record-missing file RW p (row-width (clocks T)) 7 place (omega (arith, row-width-is (clocks T))) refl h)
 
   module _ (h : length row-part ≡ 0 → ⊥) (place : ℕ) where
-    there : Rattle.table_files.specs.Reading.next-record 7 place RW (3 + 2 * clocks T) (drop p file) ≡ good row-part (drop (p + (3 + 2 * clocks T)) file)
-    there = record-there file RW p (3 + 2 * clocks T) 7 place (omega arith) refl h .2
+    there : Rattle.table_files.specs.Reading.next-record 7 place RW (row-width (clocks T)) (drop p file) ≡ good row-part (drop (p + row-width (clocks T)) file)
+    there = record-there file RW p (row-width (clocks T)) 7 place (omega (arith, row-width-is (clocks T))) refl h .2
 
     pub row-elsewhere : T .locations ≤ at row-part 2 → row-record T place (drop p file) ≡ bad 8 place
     unfolding row-record carry require
@@ -55,17 +55,17 @@ module _ (T : Table) (file : List ℕ) (p : ℕ) where
     row-ill l e = rw (there, lt-ltb (at row-part 2) (T .locations) l, e)
 
     pub row-good : at row-part 2 < T .locations → isrowb (T .bounds) (row-in (clocks T) row-part) ≡ true
-        → row-record T place (drop p file) ≡ good (row-in (clocks T) row-part) (drop (p + (3 + 2 * clocks T)) file)
+        → row-record T place (drop p file) ≡ good (row-in (clocks T) row-part) (drop (p + row-width (clocks T)) file)
     unfolding row-record carry require
     row-good l e = rw (there, lt-ltb (at row-part 2) (T .locations) l, e)
 
 -- the same, of the code's values: b is what the record reader handed back
-module _ (table file : List ℕ) (p : ℕ) (head : Head) (D : Describes table head) (b : List ℕ) (e : b ≡ record-at file p (3 + 2 * head .clocks .count) RW) where
+module _ (table file : List ℕ) (p : ℕ) (head : Head) (D : Describes table head) (w : ℕ) (v : w ≡ row-width (head .clocks .count)) (b : List ℕ) (e : b ≡ record-at file p w RW) where
   abbrev T : Table
   T = table-of table
 
   part-is : b ≡ row-part T file p
-  part-is = e ∙ ap (λ (n : ℕ). record-at file p (3 + 2 * n) RW) (D .count)
+  part-is = e ∙ ap (λ (k : ℕ). record-at file p k RW) (v ∙ ap row-width (D .count))
 
   pub read-missing : (region : Region) → length b ≡ 0 → ReadsRow T file p (record { number = 7; region = region })
   read-missing region h place = rw (row-missing T file p (sym (ap length part-is) ∙ h) place) (omega arith, refl, refl)
@@ -74,8 +74,8 @@ module _ (table file : List ℕ) (p : ℕ) (head : Head) (D : Describes table he
     some-part : length (row-part T file p) ≡ 0 → ⊥
     some-part z = h (ap length part-is ∙ z)
 
-    pub whole-record : length b ≡ 3 + 2 * head .clocks .count
-    whole-record = ap length e ∙ record-length file RW p (3 + 2 * head .clocks .count) 7 0 (omega arith) refl (λ z. h (ap length e ∙ z))
+    pub whole-record : length b ≡ row-width (head .clocks .count)
+    whole-record = ap length e ∙ record-length file RW p w 7 0 (omega (arith, v, row-width-is (head .clocks .count))) refl (λ z. h (ap length e ∙ z)) ∙ v
 
     module _ (region : Region) (q : region ≡ region-of (row-in (head .clocks .count) b)) where
       row-is : row-of (head .clocks .count) region ≡ row-in (clocks T) (row-part T file p)
@@ -107,11 +107,11 @@ module _ (table file : List ℕ) (p : ℕ) (head : Head) (D : Describes table he
 module _ (T : Table) (file : List ℕ) (p : ℕ) (r : RowRead) (h : ReadsRow T file p r) where
   module _ (fine : r .number ≡ 0) where
     -- number 0: the row of the region was read, and it is one of the table's
-    pub reads-good : (place : ℕ) → row-record T place (drop p file) ≡ good (row-of (clocks T) (r .region)) (drop (p + (3 + 2 * clocks T)) file)
+    pub reads-good : (place : ℕ) → row-record T place (drop p file) ≡ good (row-of (clocks T) (r .region)) (drop (p + row-width (clocks T)) file)
     reads-good place = go (row-record T place (drop p file)) refl (h place)
       where
-        go : (t : Read Row) → row-record T place (drop p file) ≡ t → RowTold place (drop (p + (3 + 2 * clocks T)) file) t r
-            → t ≡ good (row-of (clocks T) (r .region)) (drop (p + (3 + 2 * clocks T)) file)
+        go : (t : Read Row) → row-record T place (drop p file) ≡ t → RowTold place (drop (p + row-width (clocks T)) file) t r
+            → t ≡ good (row-of (clocks T) (r .region)) (drop (p + row-width (clocks T)) file)
         go (good row rest) e (_, q, f) =
             let R = row-read T place (drop p file) row rest e .0 in
             let same-row : row ≡ row-of (clocks T) (r .region) = sym (ap (row-of (clocks T)) q ∙ row-region (clocks T) row (R .is-row .intervals-length) (R .is-row .ranks-length)) in
@@ -125,7 +125,7 @@ module _ (T : Table) (file : List ℕ) (p : ℕ) (r : RowRead) (h : ReadsRow T f
   pub reads-bad : (r .number ≡ 0 → ⊥) → (place : ℕ) → row-record T place (drop p file) ≡ bad (r .number) place
   reads-bad refused place = go (row-record T place (drop p file)) (h place)
     where
-      go : (t : Read Row) → RowTold place (drop (p + (3 + 2 * clocks T)) file) t r → t ≡ bad (r .number) place
+      go : (t : Read Row) → RowTold place (drop (p + row-width (clocks T)) file) t r → t ≡ bad (r .number) place
       go (good row rest) (n, _, _) = absurd (refused n)
       go (bad number q) (_, n, e) = λ i. bad (sym n i) (e i)
 

@@ -7,7 +7,8 @@ use mathlib.Core.List.{List, [], _∷_, _++_, append-assoc, append-nil}
 use lib.ListN.{length, take, drop, set, getD, length-append}
 use lib.Seq.{take-suc, drop-cons, set-at, take-at, drop-at, take-length, drop-length, drop-drop, length-take-le}
 use Rattle.table_files.specs.Bytes.{RW}
-use Rattle.calls.specs.RegionFile.{row-bytes}
+use Rattle.calls.specs.RegionFile.{row-width, row-bytes}
+use Rattle.calls.proofs.Laws.Rows.{row-width-is}
 
 module _ {A : Type 0} where
   -- out holds the first z of xs and then what o has: one more is written
@@ -33,8 +34,8 @@ module _ (o a b w v : List ℕ) (n l : ℕ) (js ks : List ℕ) (long : length (t
   pub row-written : a ≡ (RW ++ (l ∷ [])) ++ drop 3 o → w ≡ take n js ++ drop n (take (length a - 3) (drop 3 a))
       → b ≡ take 3 a ++ (w ++ drop (length a - 3) (drop 3 a)) → v ≡ take n ks ++ drop n (take (length b - (3 + n)) (drop (3 + n) b))
       → take (3 + n) b ++ (v ++ drop (length b - (3 + n)) (drop (3 + n) b))
-      ≡ row-bytes (record { location = l; intervals = take n js; ranks = take n ks }) ++ drop (3 + 2 * n) o
+      ≡ row-bytes (record { location = l; intervals = take n js; ranks = take n ks }) ++ drop (row-width n) o
   row-written e f g h =
-      let two : 3 + n + n ≡ 3 + 2 * n = omega arith in
+      let two : 3 + n + n ≡ row-width n = omega (arith, row-width-is n) in
       let after : b ≡ ((RW ++ (l ∷ [])) ++ take n js) ++ drop (3 + n) o = g ∙ rest-next (RW ++ (l ∷ [])) o a w (take n js) 3 n refl e f in
       rest-next ((RW ++ (l ∷ [])) ++ take n js) o b v (take n ks) (3 + n) n (omega arith) after h ∙ rw two

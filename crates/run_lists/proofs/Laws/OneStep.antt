@@ -16,7 +16,7 @@ use Rattle.automata.specs.Automaton.{Table, edge, Admitted}
 use Rattle.automata.specs.Checks.{every}
 use Rattle.automata.specs.Clocks.{at, allb}
 use Rattle.automata.specs.Comparison.{holds}
-use Rattle.automata.specs.Edge.{Edge, Bounded, BoundedBy, Action, keep, constant, clock, idle}
+use Rattle.automata.specs.Edge.{Edge, Bounded, BoundedBy, Action, keep, constant, clock, idle, ActionIn}
 use Rattle.automata.specs.Point.{later}
 use Rattle.automata.specs.Run.{State, Move}
 use Rattle.regions.specs.Values.{guard-of, action-of, update-of, edge-of}
@@ -26,7 +26,6 @@ use Rattle.regions.specs.declared.edge.Guard as guard-code
 use Rattle.regions.specs.declared.edge.Update as update-code
 use Rattle.table_files.proofs.Laws.Admission.{admission-admitted}
 use Rattle.table_files.proofs.Laws.Reading.{itself}
-use Rattle.table_files.proofs.Laws.Tables.{ActionIn}
 use Rattle.table_files.specs.Admission.{table-of}
 use Rattle.table_files.specs.Reading.{Read, good, bad, carry, require}
 use Rattle.tables.specs.Values.{Describes}

@@ -7,7 +7,7 @@ use mathlib.Core.List.{List, [], _∷_, List·Memᴰ·not-nil}
 use lib.ListN.{length, getD}
 use borrow.Author.Tests.{leb-true}
 use Rattle.automata.specs.Clocks.{at}
-use Rattle.automata.specs.Edge.{Guard, Action, keep, constant, clock, Edge, idle, BoundedBy, Bounded}
+use Rattle.automata.specs.Edge.{Guard, Action, keep, constant, clock, Edge, idle, BoundedBy, Bounded, ActionIn}
 use Rattle.automata.specs.Automaton.{Table, blank, Admitted}
 use Rattle.automata.specs.Closed.{Mem}
 use Rattle.automata.specs.Checks.{every}
@@ -19,7 +19,7 @@ use Rattle.table_files.specs.Reading.{Read, good, bad, answered}
 use Rattle.table_files.specs.Admission.{guard-bounded, constant-bounded, clock-bounded, each-update, edges-bounded, admitted, record-count, admission, table-of, table-read}
 use Rattle.table_files.specs.Meaning.{Limits}
 use Rattle.table_files.proofs.Laws.Reading.{itself, cons-all, parts, tested, not-refused}
-use Rattle.table_files.proofs.Laws.Tables.{ActionIn, EdgeIn, TableIn, table-in}
+use Rattle.table_files.proofs.Laws.Tables.{EdgeIn, TableIn, table-in}
 
 -- the bound rules ------------------------------------------------------------------------------------------------------------
 

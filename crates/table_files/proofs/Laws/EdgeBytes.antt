@@ -11,8 +11,9 @@ use lib.ListN.{length, getD, take, drop, length-append, length-map, take-append-
 use lib.Seq.{getD-append-add}
 use lib.Dec.{leb, ltb}
 use borrow.Author.Tests.{leb-true, le-leb, lt-ltb, le-ltb}
+use Rattle.automata.specs.Comparison.{comparisons}
 use Rattle.automata.specs.Clocks.{at}
-use Rattle.automata.specs.Edge.{Guard, Action, keep, constant, clock, Update, Edge, idle}
+use Rattle.automata.specs.Edge.{Guard, Action, keep, constant, clock, Update, Edge, idle, ActionIn}
 use Rattle.automata.specs.Closed.{Mem}
 use Rattle.automata.specs.Rows.{from, gather}
 use Rattle.automata.specs.Checks.{every}
@@ -25,7 +26,7 @@ use Rattle.table_files.specs.TableFile.{guard, guard-in-range, Fields, f
 use Rattle.table_files.specs.TableBytes.{guard-bytes, offset-bytes, action-bytes, update-bytes, edge-bytes, Offset, UpdateFields, EdgeFields}
 use Rattle.table_files.proofs.Laws.Bytes.{bytes-append, bytes-before, bytes-after, gather-bytes, bytes-next, two-next, two-small}
 use Rattle.table_files.proofs.Laws.Reading.{same-read, parts, tested, took, took-record, goes, passes, bytes-back, record-back}
-use Rattle.table_files.proofs.Laws.Tables.{ActionIn, EdgeIn}
+use Rattle.table_files.proofs.Laws.Tables.{EdgeIn}
 
 -- parts of one width, one after the other ------------------------------------------------------------------------------------
 
@@ -76,20 +77,20 @@ offset-back u d o = let e : two (offset-bytes u d) 0 ≡ (65536 + u - d) % 65536
 -- guards and updates ---------------------------------------------------------------------------------------------------------
 
 -- what the tests of a guard's and of an update's fields say
-guard-law : (n : ℕ) (g : Guard) → Says (guard-in-range n g) (((g .clock < n) × (g .comparison ≤ 4)) × (g .constant ≤ 127))
-guard-law n g = and-law _ _ (and-law _ _ (ltb-law (g .clock) n) (leb-law (g .comparison) 4)) (leb-law (g .constant) 127)
+guard-law : (n : ℕ) (g : Guard) → Says (guard-in-range n g) (((g .clock < n) × (g .comparison < comparisons)) × (g .constant ≤ 127))
+guard-law n g = and-law _ _ (and-law _ _ (ltb-law (g .clock) n) (ltb-law (g .comparison) comparisons)) (leb-law (g .constant) 127)
 
 abbrev FieldsIn : ℕ → Fields → Type 0
 FieldsIn n x =
-    (((((x .kind ≡ 0) × (x .comparison ≡ 0)) × (x .y ≡ 0)) × (x .offset ≡ 0)) ⊎ ((((x .kind ≡ 1) × (x .comparison ≤ 4)) × (x .y ≡ 0)) × (x .offset ≤ 127)))
-    ⊎ (((((x .kind ≡ 2) × (x .comparison ≤ 4)) × (x .y < n)) × (up (x .offset) ≤ 127)) × (down (x .offset) ≤ 127))
+    (((((x .kind ≡ 0) × (x .comparison ≡ 0)) × (x .y ≡ 0)) × (x .offset ≡ 0)) ⊎ ((((x .kind ≡ 1) × (x .comparison < comparisons)) × (x .y ≡ 0)) × (x .offset ≤ 127)))
+    ⊎ (((((x .kind ≡ 2) × (x .comparison < comparisons)) × (x .y < n)) × (up (x .offset) ≤ 127)) × (down (x .offset) ≤ 127))
 
 fields-law : (n : ℕ) (x : Fields) → Says (fields-in-range n x) (FieldsIn n x)
 fields-law n x =
     or-law _ _
     (or-law _ _ (and-law _ _ (and-law _ _ (and-law _ _ (eqb-law (x .kind) 0) (eqb-law (x .comparison) 0)) (eqb-law (x .y) 0)) (eqb-law (x .offset) 0))
-    (and-law _ _ (and-law _ _ (and-law _ _ (eqb-law (x .kind) 1) (leb-law (x .comparison) 4)) (eqb-law (x .y) 0)) (leb-law (x .offset) 127)))
-    (and-law _ _ (and-law _ _ (and-law _ _ (and-law _ _ (eqb-law (x .kind) 2) (leb-law (x .comparison) 4)) (ltb-law (x .y) n)) (leb-law (up (x .offset)) 127))
+    (and-law _ _ (and-law _ _ (and-law _ _ (eqb-law (x .kind) 1) (ltb-law (x .comparison) comparisons)) (eqb-law (x .y) 0)) (leb-law (x .offset) 127)))
+    (and-law _ _ (and-law _ _ (and-law _ _ (and-law _ _ (eqb-law (x .kind) 2) (ltb-law (x .comparison) comparisons)) (ltb-law (x .y) n)) (leb-law (up (x .offset)) 127))
     (leb-law (down (x .offset)) 127))
 
 update-wide : (u : Update) → length (update-bytes u) ≡ 5

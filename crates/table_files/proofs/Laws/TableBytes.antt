@@ -10,7 +10,7 @@ use lib.Seq.{ext-getD}
 use lib.Dec.{leb, eqb}
 use borrow.Author.Tests.{leb-true, le-leb, lt-ltb}
 use Rattle.automata.specs.Clocks.{at}
-use Rattle.automata.specs.Edge.{Guard, Action, keep, constant, clock, Edge, idle, BoundedBy, Bounded}
+use Rattle.automata.specs.Edge.{Guard, Action, keep, constant, clock, Edge, idle, BoundedBy, Bounded, ActionIn}
 use Rattle.automata.specs.Automaton.{Table, clocks, edge, blank, final, Admitted}
 use Rattle.automata.specs.Closed.{Mem}
 use Rattle.automata.specs.Rows.{gather}
@@ -26,7 +26,7 @@ use Rattle.table_files.specs.Meaning.{Limits}
 use Rattle.table_files.specs.TableBytes.{location-bytes, edge-bytes, table-bytes, EdgeFields, TableOf}
 use Rattle.table_files.proofs.Laws.Bytes.{bytes-append, bytes-before, bytes-after, are-bytes, gather-bytes, byte-next, bytes-next, two-next}
 use Rattle.table_files.proofs.Laws.Reading.{same-read, itself, between-law, cons-all, parts, tested, ended, took, took-record, each-record, records-bytes, goes, passes, bytes-back, record-back, records-back}
-use Rattle.table_files.proofs.Laws.Tables.{ActionIn, EdgeIn}
+use Rattle.table_files.proofs.Laws.Tables.{EdgeIn}
 use Rattle.table_files.proofs.Laws.Admission.{read-limits, read-admitted, admission-read, read-admission}
 use Rattle.table_files.proofs.Laws.EdgeBytes.{edge-back, edge-are-bytes, edge-read}
 

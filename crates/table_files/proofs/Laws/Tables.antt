@@ -8,8 +8,9 @@ use mathlib.Core.Logic.{_⊎_, inl, inr}
 use mathlib.Core.List.{List, map}
 use lib.ListN.{length, length-map}
 use borrow.Author.Tests.{leb-true, ltb-true}
+use Rattle.automata.specs.Comparison.{comparisons}
 use Rattle.automata.specs.Clocks.{at}
-use Rattle.automata.specs.Edge.{Guard, Action, keep, constant, clock, Update, Edge}
+use Rattle.automata.specs.Edge.{Guard, Update, Edge, ActionIn}
 use Rattle.automata.specs.Automaton.{Table, clocks}
 use Rattle.automata.specs.Closed.{Mem}
 use Rattle.automata.specs.Rows.{from}
@@ -58,13 +59,7 @@ header-in f h left e =
 -- edges ----------------------------------------------------------------------------------------------------------------------
 
 guard-clock : (n : ℕ) (g : Guard) → guard-in-range n g ≡ true → g .clock < n
-guard-clock n g h = and-law _ _ (and-law _ _ (ltb-law (g .clock) n) (leb-law (g .comparison) 4)) (leb-law (g .constant) 127) .0 h .0 .0
-
--- a clock that an update reads is one of the n
-abbrev pub ActionIn : ℕ → Action → Type 0
-ActionIn n keep = Unit {0}
-ActionIn n (constant k) = Unit {0}
-ActionIn n (clock y up down) = y < n
+guard-clock n g h = and-law _ _ (and-law _ _ (ltb-law (g .clock) n) (ltb-law (g .comparison) comparisons)) (leb-law (g .constant) 127) .0 h .0 .0
 
 update-in : (n : ℕ) (x : Fields) → fields-in-range n x ≡ true → ActionIn n (update x .action)
 update-in n x h =

@@ -7,6 +7,7 @@ use mathlib.Core.List.{List}
 use lib.ListN.{length, drop}
 use lib.Dec.{eqb, leb, ltb}
 use borrow.Author.Tests.{leb-true, ne-eqb}
+use Rattle.automata.specs.Comparison.{comparisons}
 use Rattle.automata.specs.Clocks.{at}
 use Rattle.automata.specs.Edge.{Edge}
 use Rattle.automata.specs.Checks.{every}
@@ -32,10 +33,10 @@ module _ (n : ℕ) (f : Fields) {offset : ℕ} (is : offset ≡ f .offset) {r : 
   pub keep-in-range : f .kind ≡ 0 → r ≡ (eqb (f .comparison) 0 && eqb (f .y) 0 && eqb offset 0) → r ≡ fields-in-range n f
   keep-in-range e h = h ∙ rw (is, e) (or-none _ ∙ or-none _)
 
-  pub constant-in-range : f .kind ≡ 1 → r ≡ (leb (f .comparison) 4 && eqb (f .y) 0 && leb offset 127) → r ≡ fields-in-range n f
+  pub constant-in-range : f .kind ≡ 1 → r ≡ (ltb (f .comparison) comparisons && eqb (f .y) 0 && leb offset 127) → r ≡ fields-in-range n f
   constant-in-range e h = h ∙ rw (is, e) (or-none _)
 
-  pub clock-in-range : f .kind ≡ 2 → r ≡ (leb (f .comparison) 4 && ltb (f .y) n && leb (up offset) 127 && leb (down offset) 127) → r ≡ fields-in-range n f
+  pub clock-in-range : f .kind ≡ 2 → r ≡ (ltb (f .comparison) comparisons && ltb (f .y) n && leb (up offset) 127 && leb (down offset) 127) → r ≡ fields-in-range n f
   clock-in-range e h = h ∙ rw (is, e)
 
 pub no-kind : (n : ℕ) (f : Fields) → (f .kind ≡ 0 → ⊥) → (f .kind ≡ 1 → ⊥) → (f .kind ≡ 2 → ⊥) → false ≡ fields-in-range n f

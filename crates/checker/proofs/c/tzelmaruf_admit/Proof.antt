@@ -5,15 +5,12 @@ use borrow.Author.Needs.{needs}
 use Rattle.checker.proofs.c.tzelmaruf_admit.Statement.{statement}
 use Rattle.checker.proofs.c.tzelmaruf_admit.Tie as tie
 
--- src/c.rt:29:12
 admission-requires : tie.Need-admission-requires
 admission-requires c κs = search needs
 
--- src/c.rt:29:5
 packed-requires : tie.Need-packed-requires
 packed-requires c κs = search needs
 
--- src/c.rt:24:1
 returns : tie.Need-returns
 returns c = admission-promises _ _ (c .packed .ensures ∙ ap packed (c .before .admission .ensures .0))
 

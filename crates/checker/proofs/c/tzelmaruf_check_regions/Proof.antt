@@ -5,15 +5,12 @@ use borrow.Author.Needs.{needs}
 use Rattle.checker.proofs.c.tzelmaruf_check_regions.Statement.{statement}
 use Rattle.checker.proofs.c.tzelmaruf_check_regions.Tie as tie
 
--- src/c.rt:26:12
 check-regions-requires : tie.Need-check-regions-requires
 check-regions-requires c κs = search needs
 
--- src/c.rt:26:5
 packed-requires : tie.Need-packed-requires
 packed-requires c κs = search needs
 
--- src/c.rt:19:1
 returns : tie.Need-returns
 returns c = packed-promises (now (c .before .before .before .before .args .table)) (now (c .before .before .before .before .args .list)) (answer-of (c .before .check-regions .result)) _ (c .packed .ensures) (c .before .check-regions .ensures)
 

@@ -5,15 +5,12 @@ use borrow.Author.Needs.{needs}
 use Rattle.checker.proofs.c.tzelmaruf_check_run.Statement.{statement}
 use Rattle.checker.proofs.c.tzelmaruf_check_run.Tie as tie
 
--- src/c.rt:39:12
 check-run-requires : tie.Need-check-run-requires
 check-run-requires c κs = search needs
 
--- src/c.rt:39:5
 packed-requires : tie.Need-packed-requires
 packed-requires c κs = search needs
 
--- src/c.rt:33:1
 returns : tie.Need-returns
 returns c = let e = c .before .check-run .ensures in
     run-promises (now (c .before .before .before .before .args .table)) (now (c .before .before .before .before .args .list)) (answer-of (c .before .check-run .result)) _ (c .packed .ensures) (e .0) (e .1 .0) (e .1 .1)

@@ -6,31 +6,24 @@ use borrow.Author.Needs.{needs}
 use Rattle.checker.proofs.verdict.judge.Statement.{statement}
 use Rattle.checker.proofs.verdict.judge.Tie as tie
 
--- src/verdict.rt:56:8
 is-run-requires : tie.Need-is-run-requires
 is-run-requires c κs = search needs
 
--- src/verdict.rt:57:24
 check-run-requires : tie.Need-check-run-requires
 check-run-requires c κs = search needs
 
--- src/verdict.rt:57:9
 reached-requires : tie.Need-reached-requires
 reached-requires c κs = search needs
 
--- src/verdict.rt:57:9
 returns : tie.Need-returns
 returns c = run-told _ _ _ (sym (c .before .before .before .is-run .ensures) ∙ c .before .before .if1 .taken) (c .reached .ensures ∙ ap (printed "REACHED") (c .before .check-run .ensures .0))
 
--- src/verdict.rt:59:11
 check-regions-requires : tie.Need-check-regions-requires
 check-regions-requires c κs = search needs
 
--- src/verdict.rt:59:5
 empty-requires : tie.Need-empty-requires
 empty-requires c κs = search needs
 
--- src/verdict.rt:52:1
 returns-2 : tie.Need-returns-2
 returns-2 c = list-told _ _ _ (sym (c .before .before .before .is-run .ensures) ∙ c .before .before .if1 .left) (answer-of (c .before .check-regions .result)) (c .before .check-regions .ensures .0) (c .empty .ensures)
 

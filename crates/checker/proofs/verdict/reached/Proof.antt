@@ -2,19 +2,15 @@ use borrow.Author.Needs.{needs}
 use Rattle.checker.proofs.verdict.reached.Statement.{statement}
 use Rattle.checker.proofs.verdict.reached.Tie as tie
 
--- src/verdict.rt:36:26
 enum-known-a : tie.Need-enum-known-a
 enum-known-a c = search needs
 
--- src/verdict.rt:37:25
 enum-known-a-2 : tie.Need-enum-known-a-2
 enum-known-a-2 c = search needs
 
--- src/verdict.rt:32:1
 returns : tie.Need-returns
 returns c = simp (c .before .a .given .1)
 
--- src/verdict.rt:32:1
 returns-2 : tie.Need-returns-2
 returns-2 c = simp (c .before .a2 .given .1)
 

@@ -6,23 +6,18 @@ use borrow.Author.Needs.{needs}
 use Rattle.edge_walk.proofs.choice.next_rank.Statement.{statement}
 use Rattle.edge_walk.proofs.choice.next_rank.Tie as tie
 
--- src/choice.rt:39:9
 rank-room-requires : tie.Need-rank-room-requires
 rank-room-requires c κs = search needs
 
--- src/choice.rt:40:9
 is-used-requires : tie.Need-is-used-requires
 is-used-requires c κs = search needs
 
--- src/choice.rt:41:9
 returns : tie.Need-returns
 returns c = record { on = omega arith; full = λ l. absurd (omega arith); over = λ a l k. absurd (omega arith) }
 
--- src/choice.rt:43:5
 next-unused-requires : tie.Need-next-unused-requires
 next-unused-requires c κs = search needs
 
--- src/choice.rt:33:1
 returns-2 : tie.Need-returns-2
 returns-2 c = let a = c .before .before .before .before .before .args in record {
   on = c .next-unused .ensures .0;

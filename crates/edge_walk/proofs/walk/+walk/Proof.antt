@@ -72,117 +72,93 @@ walk-floor t c = record { intervals = search needs; ranks = search needs }
 walk-part : (t : ℕ) (c : walk-lts.Start (walk-claims t) (walk-at t) walk.Post walk-Inv-loop walk-μ-loop) → Four (c .args .part)
 walk-part t c = record { intervals = search needs; ranks = search needs }
 
--- src/walk.rt:59:8
 walk-is-stuck-requires : (t : ℕ) → walk-lts.Need-is-stuck-requires (walk-claims t) (walk-at t) walk.Post walk-Inv-loop walk-μ-loop
 walk-is-stuck-requires t c κs = search needs
 
--- src/walk.rt:60:9
 walk-missing-requires : (t : ℕ) → walk-lts.Need-missing-requires (walk-claims t) (walk-at t) walk.Post walk-Inv-loop walk-μ-loop
 walk-missing-requires t c κs = search needs
 
--- src/walk.rt:60:9
 walk-returns : (t : ℕ) → walk-lts.Need-returns (walk-claims t) (walk-at t) walk.Post walk-Inv-loop walk-μ-loop
 walk-returns t c = let s = c .before .before .before in
     let a = s .args in
     stuck (a .s) (s .pre .1 .0) (walk-bounds t s) (walk-floor t s) (a .part) (walk-part t s) (a .i) (a .tight) (s .pre .1 .1) _ (sym (c .before .before .is-stuck .ensures) ∙ c .before .if1 .taken) (c .missing .ensures)
 
--- src/walk.rt:62:13
 walk-cast-n : (t : ℕ) → walk-lts.Need-cast-n (walk-claims t) (walk-at t) walk.Post walk-Inv-loop walk-μ-loop
 walk-cast-n t c = search needs
 
--- src/walk.rt:63:17
 walk-mul-if2 : (t : ℕ) → walk-lts.Need-mul-if2 (walk-claims t) (walk-at t) walk.Post walk-Inv-loop walk-μ-loop
 walk-mul-if2 t c = search needs
 
--- src/walk.rt:63:13
 walk-add-if2 : (t : ℕ) → walk-lts.Need-add-if2 (walk-claims t) (walk-at t) walk.Post walk-Inv-loop walk-μ-loop
 walk-add-if2 t c = search needs
 
--- src/walk.rt:64:9
 walk-arrive-requires : (t : ℕ) → walk-lts.Need-arrive-requires (walk-claims t) (walk-at t) walk.Post walk-Inv-loop walk-μ-loop
 walk-arrive-requires t c κs = let s = c .before .before .before .before in
     let a = s .args in
     let e : a .i ≡ 1 + 2 * a .s .clocks .count = c .if2 .taken in
     (s .pre .1 .0, (rw e at (s .pre .1 .1), rw e at (sym (c .before .before .before .is-stuck .ensures) ∙ c .before .before .if1 .left)))
 
--- src/walk.rt:64:9
 walk-returns-2 : (t : ℕ) → walk-lts.Need-returns-2 (walk-claims t) (walk-at t) walk.Post walk-Inv-loop walk-μ-loop
 walk-returns-2 t c = let s = c .before .before .before .before .before in
     let a = s .args in
     let e : a .i ≡ 1 + 2 * a .s .clocks .count = c .before .if2 .taken in
     rw e (c .arrive .ensures)
 
--- src/walk.rt:67:9
 walk-number-requires : (t : ℕ) → walk-lts.Need-number-requires (walk-claims t) (walk-at t) walk.Post walk-Inv-loop walk-μ-loop
 walk-number-requires t c κs = search needs
 
--- src/walk.rt:68:9
 walk-last-choice-requires : (t : ℕ) → walk-lts.Need-last-choice-requires (walk-claims t) (walk-at t) walk.Post walk-Inv-loop walk-μ-loop
 walk-last-choice-requires t c κs = search needs
 
--- src/walk.rt:69:45
 walk-first-choice-requires : (t : ℕ) → walk-lts.Need-first-choice-requires (walk-claims t) (walk-at t) walk.Post walk-Inv-loop walk-μ-loop
 walk-first-choice-requires t c κs = search needs
 
--- src/walk.rt:69:9
 walk-next-choice-requires : (t : ℕ) → walk-lts.Need-next-choice-requires (walk-claims t) (walk-at t) walk.Post walk-Inv-loop walk-μ-loop
 walk-next-choice-requires t c κs = search needs
 
--- src/walk.rt:70:5
 walk-loop-holds : (t : ℕ) → walk-lts.Need-loop-holds (walk-claims t) (walk-at t) walk.Post walk-Inv-loop walk-μ-loop
 walk-loop-holds t c = let s = c .before .before .before .before .before .before .before .before .before in
     let a = s .args in
     begin (a .s) (s .pre .1 .0) (walk-bounds t s) (walk-floor t s) (a .part) (walk-part t s) (a .i) (a .tight) (s .pre .1 .1) (omega arith) _ _ (rw (c .before .before .before .number .ensures) at (c .before .first-choice .ensures)) (c .next-choice .ensures)
 
--- src/walk.rt:71:13
 walk-with-number-requires : (t : ℕ) → walk-lts.Need-with-number-requires (walk-claims t) (walk-at t) walk.Post walk-Inv-loop walk-μ-loop
 walk-with-number-requires t c κs = (search needs, (search needs, λ h. omega (arith, c .before .before .before .before .last-choice .ensures .low-rank h)))
 
--- src/walk.rt:72:39
 walk-add-walk : (t : ℕ) → walk-lts.Need-add-walk (walk-claims t) (walk-at t) walk.Post walk-Inv-loop walk-μ-loop
 walk-add-walk t c = search needs
 
--- src/walk.rt:72:46
 walk-stays-tight-requires : (t : ℕ) → walk-lts.Need-stays-tight-requires (walk-claims t) (walk-at t) walk.Post walk-Inv-loop walk-μ-loop
 walk-stays-tight-requires t c κs = search needs
 
--- src/walk.rt:72:13
 walk-walk-requires : (t : ℕ) → walk-lts.Need-walk-requires (walk-claims t) (walk-at t) walk.Post walk-Inv-loop walk-μ-loop
 walk-walk-requires t c κs = let s = c .before .before .before .before .before .before .before .before .before .before .before .before .before in
     let a = s .args in
     (omega (arith, s .pre .0, s .pre .1 .1 .within, c .before .before .before .before .before .before .before .before .before .if2 .left), (s .pre .1 .0, onward (a .s) (s .pre .1 .0) (walk-bounds t s) (walk-floor t s) (a .part) (walk-part t s) (a .i) (a .tight) (s .pre .1 .1) (omega (arith, s .pre .1 .1 .within, c .before .before .before .before .before .before .before .before .before .if2 .left)) _ (c .before .before .before .loop .inv) _ (c .before .with-number .ensures) _ (rw (c .before .before .before .before .before .before .before .number .ensures) at (c .stays-tight .ensures))))
 
--- src/walk.rt:74:13
 walk-returns-3 : (t : ℕ) → walk-lts.Need-returns-3 (walk-claims t) (walk-at t) walk.Post walk-Inv-loop walk-μ-loop
 walk-returns-3 t c = let s = c .before .before .before .before .before .before .before .before .before .before .before .before .before .before .before in
     let a = s .args in
     found (a .s) (s .pre .1 .0) (walk-bounds t s) (walk-floor t s) (a .part) (walk-part t s) (a .i) (a .tight) (s .pre .1 .1) (omega (arith, s .pre .1 .1 .within, c .before .before .before .before .before .before .before .before .before .before .before .if2 .left)) _ (c .before .before .before .before .before .loop .inv) _ (c .before .before .before .with-number .ensures) _ (rw (c .before .before .before .before .before .before .before .before .before .number .ensures) at (c .before .before .stays-tight .ensures)) _ (c .before .walk .ensures) (c .if3 .taken)
 
--- src/walk.rt:76:41
 walk-add-next-choice : (t : ℕ) → walk-lts.Need-add-next-choice (walk-claims t) (walk-at t) walk.Post walk-Inv-loop walk-μ-loop
 walk-add-next-choice t c = search needs
 
--- src/walk.rt:76:9
 walk-next-choice-requires-2 : (t : ℕ) → walk-lts.Need-next-choice-requires-2 (walk-claims t) (walk-at t) walk.Post walk-Inv-loop walk-μ-loop
 walk-next-choice-requires-2 t c κs = let s = c .before .before .before .before .before .before .before .before .before .before .before .before .before .before .before in
     let a = s .args in
     (s .pre .1 .0, (s .pre .1 .1 .begun, (omega (arith, s .pre .1 .1 .within, c .before .before .before .before .before .before .before .before .before .before .before .if2 .left))))
 
--- src/walk.rt:70:5
 walk-loop-less : (t : ℕ) → walk-lts.Need-loop-less (walk-claims t) (walk-at t) walk.Post walk-Inv-loop walk-μ-loop
 walk-loop-less t c = search needs
 
--- src/walk.rt:70:5
 walk-loop-again : (t : ℕ) → walk-lts.Need-loop-again (walk-claims t) (walk-at t) walk.Post walk-Inv-loop walk-μ-loop
 walk-loop-again t c = let s = c .before .before .before .before .before .before .before .before .before .before .before .before .before .before .before .before in
     let a = s .args in
     go-on (a .s) (s .pre .1 .0) (walk-bounds t s) (walk-floor t s) (a .part) (walk-part t s) (a .i) (a .tight) (s .pre .1 .1) (omega (arith, s .pre .1 .1 .within, c .before .before .before .before .before .before .before .before .before .before .before .before .if2 .left)) _ (c .before .before .before .before .before .before .loop .inv) _ (c .before .before .before .before .with-number .ensures) _ (rw (c .before .before .before .before .before .before .before .before .before .before .number .ensures) at (c .before .before .before .stays-tight .ensures)) _ _ (c .before .before .walk .ensures) (c .before .if3 .left) (c .next-choice2 .ensures)
 
--- src/walk.rt:78:5
 walk-missing-requires-2 : (t : ℕ) → walk-lts.Need-missing-requires-2 (walk-claims t) (walk-at t) walk.Post walk-Inv-loop walk-μ-loop
 walk-missing-requires-2 t c κs = search needs
 
--- src/walk.rt:54:1
 walk-returns-4 : (t : ℕ) → walk-lts.Need-returns-4 (walk-claims t) (walk-at t) walk.Post walk-Inv-loop walk-μ-loop
 walk-returns-4 t c = let s = c .before .before .before .before .before .before .before .before .before .before .before .before in
     let a = s .args in

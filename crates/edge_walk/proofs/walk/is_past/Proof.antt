@@ -2,11 +2,9 @@ use borrow.Author.Tests.{not-true, not-false}
 use Rattle.edge_walk.proofs.walk.is_past.Statement.{statement}
 use Rattle.edge_walk.proofs.walk.is_past.Tie as tie
 
--- src/walk.rt:93:9
 returns : tie.Need-returns
 returns c = rw (not-true (c .before .before .args .floor .found) (c .if1 .taken))
 
--- src/walk.rt:89:1
 returns-2 : tie.Need-returns-2
 returns-2 c = rw (not-false (c .before .before .before .before .args .floor .found) (c .before .before .if1 .left))
 

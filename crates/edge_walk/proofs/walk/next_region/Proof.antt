@@ -37,79 +37,63 @@ claims = (
 floor-four : (c : lts.Start claims reads.Pre reads.Post) → length (c .args .floor .region .intervals) ≡ 4
 floor-four c = search needs
 
--- src/walk.rt:119:9
 missing-requires : tie.Need-missing-requires
 missing-requires c κs = search needs
 
--- src/walk.rt:119:9
 returns : tie.Need-returns
 returns c = let s = c .before .before .before .before in
     let a = s .args in
     elsewhere (a .clocks) (s .pre .0) (search needs) (a .from) (s .pre .1 .1 .0) (a .e) (s .pre .1 .1 .1) (a .floor) _ (c .before .if1 .taken) (c .missing .ensures)
 
--- src/walk.rt:121:9
 guards-hold-requires : tie.Need-guards-hold-requires
 guards-hold-requires c κs = search needs
 
--- src/walk.rt:122:9
 missing-requires-2 : tie.Need-missing-requires-2
 missing-requires-2 c κs = search needs
 
--- src/walk.rt:122:9
 returns-2 : tie.Need-returns-2
 returns-2 c = let s = c .before .before .before .before .before .before in
     let a = s .args in
     unguarded (a .clocks) (s .pre .0) (search needs) (a .from) (s .pre .1 .1 .0) (a .e) (s .pre .1 .1 .1) (a .floor) _ (sym (c .before .before .guards-hold .ensures) ∙ not-true _ (c .before .if2 .taken)) (c .missing2 .ensures)
 
--- src/walk.rt:124:9
 moves-requires : tie.Need-moves-requires
 moves-requires c κs = search needs
 
--- src/walk.rt:125:26
 cast-all-permit : tie.Need-cast-all-permit
 cast-all-permit c = search needs
 
--- src/walk.rt:125:9
 all-permit-requires : tie.Need-all-permit-requires
 all-permit-requires c κs = let s = c .before .before .before .before .before .before .before in
     let a = s .args in
     (s .pre .0 .few, low-tops (a .clocks) (s .pre .0) (search needs) (a .from) (s .pre .1 .1 .0) (a .e) (s .pre .1 .1 .1) (a .floor) _ (c .before .moves .ensures))
 
--- src/walk.rt:126:9
 missing-requires-3 : tie.Need-missing-requires-3
 missing-requires-3 c κs = search needs
 
--- src/walk.rt:126:9
 returns-3 : tie.Need-returns-3
 returns-3 c = let s = c .before .before .before .before .before .before .before .before .before .before in
     let a = s .args in
     none-permit (a .clocks) (s .pre .0) (search needs) (a .from) (s .pre .1 .1 .0) (a .e) (s .pre .1 .1 .1) (a .floor) _ (c .before .before .before .before .moves .ensures) _ (sym (c .before .before .all-permit .ensures) ∙ not-true _ (c .before .if3 .taken)) (c .missing3 .ensures)
 
--- src/walk.rt:128:8
 is-past-requires : tie.Need-is-past-requires
 is-past-requires c κs = search needs
 
--- src/walk.rt:129:9
 missing-requires-4 : tie.Need-missing-requires-4
 missing-requires-4 c κs = search needs
 
--- src/walk.rt:129:9
 returns-4 : tie.Need-returns-4
 returns-4 c = let s = c .before .before .before .before .before .before .before .before .before .before .before .before in
     let a = s .args in
     past (a .clocks) (s .pre .0) (search needs) (a .from) (s .pre .1 .1 .0) (a .e) (s .pre .1 .1 .1) (a .floor) _ (sym (c .before .before .is-past .ensures) ∙ c .before .if4 .taken) (c .missing4 .ensures)
 
--- src/walk.rt:142:22
 is-at-requires : tie.Need-is-at-requires
 is-at-requires c κs = search needs
 
--- src/walk.rt:142:5
 walk-requires : tie.Need-walk-requires
 walk-requires c κs = let s = c .before .before .before .before .before .before .before .before .before .before .before .before .before in
     let a = s .args in
     (ready (a .clocks) (s .pre .0) (search needs) (a .from) (s .pre .1 .1 .0) (a .e) (s .pre .1 .1 .1) (a .floor) _ (c .before .before .before .before .before .before .before .moves .ensures), begins (a .clocks) (s .pre .0) (search needs) (a .from) (s .pre .1 .1 .0) (a .e) (s .pre .1 .1 .1) (a .floor) _ (c .before .before .before .before .before .before .before .moves .ensures) _ (c .is-at .ensures))
 
--- src/walk.rt:111:1
 returns-5 : tie.Need-returns-5
 returns-5 c = let s = c .before .before .before .before .before .before .before .before .before .before .before .before .before .before in
     let a = s .args in

@@ -2,11 +2,9 @@ use borrow.Author.Tests.{not-true, not-false}
 use Rattle.edge_walk.proofs.walk.stays_tight.Statement.{statement}
 use Rattle.edge_walk.proofs.walk.stays_tight.Tie as tie
 
--- src/walk.rt:27:9
 returns : tie.Need-returns
 returns c = rw (not-true (c .before .args .tight) (c .if1 .taken))
 
--- src/walk.rt:23:1
 returns-2 : tie.Need-returns-2
 returns-2 c = rw (not-false (c .before .args .tight) (c .if1 .left))
 

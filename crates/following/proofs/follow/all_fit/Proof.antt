@@ -3,6 +3,7 @@ use mathlib.Core.Path.{_≡_}
 use lib.ListN.{length}
 use borrow.Author.Tests.{not-true, not-false}
 use borrow.Author.Needs.{needs}
+use Rattle.calls.proofs.Laws.Rows.{row-width-is}
 use Rattle.following.specs.Following.{rows-led}
 use Rattle.following.proofs.Laws.FollowRows.{Counted, none-counted, all-counted, too-many, more-counted, led-listed}
 use Rattle.following.proofs.follow.all_fit.Statement.{statement}
@@ -14,8 +15,8 @@ Inv-loop clocks from e room width floor₀ left₀ floor left = Counted (clocks 
 abbrev μ-loop : tie.MeasureT-loop
 μ-loop clocks from e room width floor₀ left₀ floor left = left
 
-row-width-requires : tie.Need-row-width-requires Inv-loop μ-loop
-row-width-requires c κs = search needs
+width-of-requires : tie.Need-width-of-requires Inv-loop μ-loop
+width-of-requires c κs = search needs
 
 loop-holds : tie.Need-loop-holds Inv-loop μ-loop
 loop-holds c = none-counted _ _ _ _
@@ -34,17 +35,17 @@ returns-2 c = let a = c .before .before .before .before .before .before .args in
     let good = c .before .before .before .before .before .before .good in
     let four : length (a .clocks .bounds) ≡ 4 = search needs in
     let L = led-listed (a .clocks) four (a .from) (c .before .before .before .before .before .before .pre .0) (a .e) (c .before .before .before .before .before .before .pre .1) in
-    too-many _ _ L _ _ _ _ (c .before .before .before .before .loop .inv) (c .before .before .before .next-region .ensures) (not-false _ (c .before .if1 .left)) (omega (arith, c .before .before .before .before .before .row-width .ensures))
+    too-many _ _ L _ _ _ _ (c .before .before .before .before .loop .inv) (c .before .before .before .next-region .ensures) (not-false _ (c .before .if1 .left)) (omega (arith, c .before .before .before .before .before .width-of .ensures))
 
 loop-less : tie.Need-loop-less Inv-loop μ-loop
-loop-less c = omega (arith, c .before .before .before .before .before .row-width .ensures)
+loop-less c = omega (arith, c .before .before .before .before .before .width-of .ensures, row-width-is (c .before .before .before .before .before .before .args .clocks .count))
 
 loop-again : tie.Need-loop-again Inv-loop μ-loop
 loop-again c = let a = c .before .before .before .before .before .before .args in
     let good = c .before .before .before .before .before .before .good in
     let four : length (a .clocks .bounds) ≡ 4 = search needs in
     let L = led-listed (a .clocks) four (a .from) (c .before .before .before .before .before .before .pre .0) (a .e) (c .before .before .before .before .before .before .pre .1) in
-    rw (c .before .before .before .before .before .row-width .ensures) (more-counted _ _ L _ _ _ _ (c .before .before .before .before .loop .inv) (c .before .before .before .next-region .ensures) (not-false _ (c .before .if1 .left)) (omega (arith, c .before .before .before .before .before .row-width .ensures)))
+    rw (c .before .before .before .before .before .width-of .ensures) (more-counted _ _ L _ _ _ _ (c .before .before .before .before .loop .inv) (c .before .before .before .next-region .ensures) (not-false _ (c .before .if1 .left)) (omega (arith, c .before .before .before .before .before .width-of .ensures)))
 
 pub all-fit-spec : {M : Type 1} → statement M
 all-fit-spec =
@@ -52,7 +53,7 @@ all-fit-spec =
     (tie.spec
     Inv-loop
     μ-loop
-    row-width-requires
+    width-of-requires
     loop-holds
     next-region-requires
     returns

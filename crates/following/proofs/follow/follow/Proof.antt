@@ -22,18 +22,20 @@ returns-2 c = let a = c .before .before .before .before .before .before .before 
     let D = described (now (a .table)) (now (a .row)) (a .number) (now (a .buffer)) (c .before .before .before .before .before .before .«open» .result) (c .before .before .before .before .before .before .«open» .ensures) (c .before .before .before .before .if1 .left) in
     row-refused (now (a .table)) (now (a .row)) (a .number) (now (a .buffer)) (c .before .before .before .before .before .before .«open» .result .head) D (c .before .before .read-row .result) (c .before .before .read-row .ensures) (c .if2 .taken)
 
-row-width-requires : tie.Need-row-width-requires
-row-width-requires c κs = search needs
+width-of-requires : tie.Need-width-of-requires
+width-of-requires c κs = let a = c .before .before .before .before .before .before .before .before .before .before .before .args in
+    let D = described (now (a .table)) (now (a .row)) (a .number) (now (a .buffer)) (c .before .before .before .before .before .before .before .«open» .result) (c .before .before .before .before .before .before .before .«open» .ensures) (c .before .before .before .before .before .if1 .left) in
+    D .few .few
 
 returns-3 : tie.Need-returns-3
 returns-3 c = let a = c .before .before .before .before .before .before .before .before .before .before .before .before .before .args in
     let D = described (now (a .table)) (now (a .row)) (a .number) (now (a .buffer)) (c .before .before .before .before .before .before .before .before .before .«open» .result) (c .before .before .before .before .before .before .before .before .before .«open» .ensures) (c .before .before .before .before .before .before .before .if1 .left) in
-    bytes-follow (now (a .table)) (now (a .row)) (a .number) (now (a .buffer)) (c .before .before .before .before .before .before .before .before .before .«open» .result .head) D (c .before .before .before .before .before .read-row .result) (c .before .before .before .before .before .read-row .ensures) (c .before .before .before .if2 .left) (omega (arith, c .before .row-width .ensures))
+    bytes-follow (now (a .table)) (now (a .row)) (a .number) (now (a .buffer)) (c .before .before .before .before .before .before .before .before .before .«open» .result .head) D (c .before .before .before .before .before .read-row .result) (c .before .before .before .before .before .read-row .ensures) (c .before .before .before .if2 .left) (omega (arith, c .before .width-of .ensures))
 
 follow-wait-requires : tie.Need-follow-wait-requires
 follow-wait-requires c κs = let a = c .before .before .before .before .before .before .before .before .before .before .before .before .before .before .before .before .args in
     let D = described (now (a .table)) (now (a .row)) (a .number) (now (a .buffer)) (c .before .before .before .before .before .before .before .before .before .before .before .before .«open» .result) (c .before .before .before .before .before .before .before .before .before .before .before .before .«open» .ensures) (c .before .before .before .before .before .before .before .before .before .before .if1 .left) in
-    stands (now (a .table)) (now (a .row)) (a .number) (now (a .buffer)) (c .before .before .before .before .before .before .before .before .before .before .before .before .«open» .result .head) D (c .before .before .before .before .before .before .before .before .read-row .result) (c .before .before .before .before .before .before .before .before .read-row .ensures) (c .before .before .before .before .before .before .if2 .left) (omega (arith, c .before .before .before .before .row-width .ensures))
+    stands (now (a .table)) (now (a .row)) (a .number) (now (a .buffer)) (c .before .before .before .before .before .before .before .before .before .before .before .before .«open» .result .head) D (c .before .before .before .before .before .before .before .before .read-row .result) (c .before .before .before .before .before .before .before .before .read-row .ensures) (c .before .before .before .before .before .before .if2 .left) (omega (arith, c .before .before .before .before .width-of .ensures))
 
 same-length : tie.Need-same-length
 same-length c = search needs
@@ -41,12 +43,12 @@ same-length c = search needs
 returns-4 : tie.Need-returns-4
 returns-4 c = let a = c .before .before .before .before .before .before .before .before .before .before .before .before .before .before .before .before .before .before .before .args in
     let D = described (now (a .table)) (now (a .row)) (a .number) (now (a .buffer)) (c .before .before .before .before .before .before .before .before .before .before .before .before .before .before .before .«open» .result) (c .before .before .before .before .before .before .before .before .before .before .before .before .before .before .before .«open» .ensures) (c .before .before .before .before .before .before .before .before .before .before .before .before .before .if1 .left) in
-    by-waiting (now (a .table)) (now (a .row)) (a .number) (now (a .buffer)) (c .before .before .before .before .before .before .before .before .before .before .before .before .before .before .before .«open» .result .head) D (c .before .before .before .before .before .before .before .before .before .before .before .read-row .result) (c .before .before .before .before .before .before .before .before .before .before .before .read-row .ensures) (c .before .before .before .before .before .before .before .before .before .if2 .left) (omega (arith, c .before .before .before .before .before .before .before .row-width .ensures)) _ _ (c .before .before .before .before .if4 .taken) (c .before .before .follow-wait .ensures)
+    by-waiting (now (a .table)) (now (a .row)) (a .number) (now (a .buffer)) (c .before .before .before .before .before .before .before .before .before .before .before .before .before .before .before .«open» .result .head) D (c .before .before .before .before .before .before .before .before .before .before .before .read-row .result) (c .before .before .before .before .before .before .before .before .before .before .before .read-row .ensures) (c .before .before .before .before .before .before .before .before .before .if2 .left) (omega (arith, c .before .before .before .before .before .before .before .width-of .ensures)) _ _ (c .before .before .before .before .if4 .taken) (c .before .before .follow-wait .ensures)
 
 returns-5 : tie.Need-returns-5
 returns-5 c = let a = c .before .before .before .before .before .before .before .before .before .before .before .before .before .before .before .before .before .args in
     let D = described (now (a .table)) (now (a .row)) (a .number) (now (a .buffer)) (c .before .before .before .before .before .before .before .before .before .before .before .before .before .«open» .result) (c .before .before .before .before .before .before .before .before .before .before .before .before .before .«open» .ensures) (c .before .before .before .before .before .before .before .before .before .before .before .if1 .left) in
-    neither (now (a .table)) (now (a .row)) (a .number) (now (a .buffer)) (c .before .before .before .before .before .before .before .before .before .before .before .before .before .«open» .result .head) D (c .before .before .before .before .before .before .before .before .before .read-row .result) (c .before .before .before .before .before .before .before .before .before .read-row .ensures) (c .before .before .before .before .before .before .before .if2 .left) (omega (arith, c .before .before .before .before .before .row-width .ensures)) (c .if5 .taken) (c .before .before .if4 .left)
+    neither (now (a .table)) (now (a .row)) (a .number) (now (a .buffer)) (c .before .before .before .before .before .before .before .before .before .before .before .before .before .«open» .result .head) D (c .before .before .before .before .before .before .before .before .before .read-row .result) (c .before .before .before .before .before .before .before .before .before .read-row .ensures) (c .before .before .before .before .before .before .before .if2 .left) (omega (arith, c .before .before .before .before .before .width-of .ensures)) (c .if5 .taken) (c .before .before .if4 .left)
 
 edge-at-requires : tie.Need-edge-at-requires
 edge-at-requires c κs = let a = c .before .before .before .before .before .before .before .before .before .before .before .before .before .before .before .before .before .args in
@@ -56,7 +58,7 @@ edge-at-requires c κs = let a = c .before .before .before .before .before .befo
 follow-edge-requires : tie.Need-follow-edge-requires
 follow-edge-requires c κs = let a = c .before .before .before .before .before .before .before .before .before .before .before .before .before .before .before .before .before .before .before .args in
     let D = described (now (a .table)) (now (a .row)) (a .number) (now (a .buffer)) (c .before .before .before .before .before .before .before .before .before .before .before .before .before .before .before .«open» .result) (c .before .before .before .before .before .before .before .before .before .before .before .before .before .before .before .«open» .ensures) (c .before .before .before .before .before .before .before .before .before .before .before .before .before .if1 .left) in
-    (stands (now (a .table)) (now (a .row)) (a .number) (now (a .buffer)) (c .before .before .before .before .before .before .before .before .before .before .before .before .before .before .before .«open» .result .head) D (c .before .before .before .before .before .before .before .before .before .before .before .read-row .result) (c .before .before .before .before .before .before .before .before .before .before .before .read-row .ensures) (c .before .before .before .before .before .before .before .before .before .if2 .left) (omega (arith, c .before .before .before .before .before .before .before .row-width .ensures)), leaves (now (a .table)) (now (a .row)) (a .number) (now (a .buffer)) (c .before .before .before .before .before .before .before .before .before .before .before .before .before .before .before .«open» .result .head) D (c .before .before .before .before .before .before .before .before .before .before .before .read-row .result) (c .before .before .before .before .before .before .before .before .before .before .before .read-row .ensures) (c .before .before .before .before .before .before .before .before .before .if2 .left) (omega (arith, c .before .before .before .before .before .before .before .row-width .ensures)) (c .before .edge-at .result) (c .before .before .if5 .left) (c .before .edge-at .ensures .0) (c .before .edge-at .ensures .1))
+    (stands (now (a .table)) (now (a .row)) (a .number) (now (a .buffer)) (c .before .before .before .before .before .before .before .before .before .before .before .before .before .before .before .«open» .result .head) D (c .before .before .before .before .before .before .before .before .before .before .before .read-row .result) (c .before .before .before .before .before .before .before .before .before .before .before .read-row .ensures) (c .before .before .before .before .before .before .before .before .before .if2 .left) (omega (arith, c .before .before .before .before .before .before .before .width-of .ensures)), leaves (now (a .table)) (now (a .row)) (a .number) (now (a .buffer)) (c .before .before .before .before .before .before .before .before .before .before .before .before .before .before .before .«open» .result .head) D (c .before .before .before .before .before .before .before .before .before .before .before .read-row .result) (c .before .before .before .before .before .before .before .before .before .before .before .read-row .ensures) (c .before .before .before .before .before .before .before .before .before .if2 .left) (omega (arith, c .before .before .before .before .before .before .before .width-of .ensures)) (c .before .edge-at .result) (c .before .before .if5 .left) (c .before .edge-at .ensures .0) (c .before .edge-at .ensures .1))
 
 same-length-2 : tie.Need-same-length-2
 same-length-2 c = search needs
@@ -64,7 +66,7 @@ same-length-2 c = search needs
 returns-6 : tie.Need-returns-6
 returns-6 c = let a = c .before .before .before .before .before .before .before .before .before .before .before .before .before .before .before .before .before .before .before .before .before .before .args in
     let D = described (now (a .table)) (now (a .row)) (a .number) (now (a .buffer)) (c .before .before .before .before .before .before .before .before .before .before .before .before .before .before .before .before .before .before .«open» .result) (c .before .before .before .before .before .before .before .before .before .before .before .before .before .before .before .before .before .before .«open» .ensures) (c .before .before .before .before .before .before .before .before .before .before .before .before .before .before .before .before .if1 .left) in
-    by-edge (now (a .table)) (now (a .row)) (a .number) (now (a .buffer)) (c .before .before .before .before .before .before .before .before .before .before .before .before .before .before .before .before .before .before .«open» .result .head) D (c .before .before .before .before .before .before .before .before .before .before .before .before .before .before .read-row .result) (c .before .before .before .before .before .before .before .before .before .before .before .before .before .before .read-row .ensures) (c .before .before .before .before .before .before .before .before .before .before .before .before .if2 .left) (omega (arith, c .before .before .before .before .before .before .before .before .before .before .row-width .ensures)) (c .before .before .before .before .edge-at .result) (c .before .before .before .before .before .if5 .left) (c .before .before .before .before .edge-at .ensures .0) _ _ (c .before .before .follow-edge .ensures)
+    by-edge (now (a .table)) (now (a .row)) (a .number) (now (a .buffer)) (c .before .before .before .before .before .before .before .before .before .before .before .before .before .before .before .before .before .before .«open» .result .head) D (c .before .before .before .before .before .before .before .before .before .before .before .before .before .before .read-row .result) (c .before .before .before .before .before .before .before .before .before .before .before .before .before .before .read-row .ensures) (c .before .before .before .before .before .before .before .before .before .before .before .before .if2 .left) (omega (arith, c .before .before .before .before .before .before .before .before .before .before .width-of .ensures)) (c .before .before .before .before .edge-at .result) (c .before .before .before .before .before .if5 .left) (c .before .before .before .before .edge-at .ensures .0) _ _ (c .before .before .follow-edge .ensures)
 
 pub follow-spec : {M : Type 1} → statement M
 follow-spec =
@@ -74,7 +76,7 @@ follow-spec =
     returns
     read-row-requires
     returns-2
-    row-width-requires
+    width-of-requires
     returns-3
     follow-wait-requires
     same-length

@@ -4,6 +4,7 @@ use mathlib.Core.Path.{_≡_}
 use lib.ListN.{length, length-take, length-drop}
 use borrow.Author.Tests.{not-true, not-false}
 use borrow.Author.Needs.{needs}
+use Rattle.calls.proofs.Laws.Rows.{row-width-is}
 use Rattle.following.specs.Following.{rows-led}
 use Rattle.following.proofs.Laws.FollowRows.{Copied, none-copied, all-copied, room-next, wide-next, more-copied, led-listed}
 use Rattle.following.proofs.follow.write_all.Statement.{statement}
@@ -15,8 +16,8 @@ Inv-loop buffer₀ clocks from e width n floor₀ at₀ count₀ buffer floor at
 abbrev μ-loop : tie.MeasureT-loop
 μ-loop buffer₀ clocks from e width n floor₀ at₀ count₀ buffer floor at count = length buffer₀ - at
 
-row-width-requires : tie.Need-row-width-requires Inv-loop μ-loop
-row-width-requires c κs = search needs
+width-of-requires : tie.Need-width-of-requires Inv-loop μ-loop
+width-of-requires c κs = search needs
 
 cast-n : tie.Need-cast-n Inv-loop μ-loop
 cast-n c = search needs
@@ -86,7 +87,7 @@ loop-less c = let a = c .before .before .before .before .before .before .before 
     let four : length (a .clocks .bounds) ≡ 4 = search needs in
     let L = led-listed (a .clocks) four (a .from) (c .before .before .before .before .before .before .before .before .before .before .before .before .pre .0) (a .e) (c .before .before .before .before .before .before .before .before .before .before .before .before .pre .1 .0) in
     let next = room-next _ _ L _ _ _ _ _ _ (c .before .before .before .before .before .before .before .before .loop .inv) (c .before .before .before .before .before .before .before .next-region .ensures) (not-false _ (c .before .before .before .before .before .if1 .left)) (c .before .before .before .before .before .before .before .before .before .before .before .before .pre .1 .1) in
-    omega arith
+    omega (arith, c .before .before .before .before .before .before .before .before .before .before .width-of .ensures, row-width-is (a .clocks .count))
 
 loop-again : tie.Need-loop-again Inv-loop μ-loop
 loop-again c = let a = c .before .before .before .before .before .before .before .before .before .before .before .before .args in
@@ -94,7 +95,7 @@ loop-again c = let a = c .before .before .before .before .before .before .before
     let four : length (a .clocks .bounds) ≡ 4 = search needs in
     let L = led-listed (a .clocks) four (a .from) (c .before .before .before .before .before .before .before .before .before .before .before .before .pre .0) (a .e) (c .before .before .before .before .before .before .before .before .before .before .before .before .pre .1 .0) in
     let next = room-next _ _ L _ _ _ _ _ _ (c .before .before .before .before .before .before .before .before .loop .inv) (c .before .before .before .before .before .before .before .next-region .ensures) (not-false _ (c .before .before .before .before .before .if1 .left)) (c .before .before .before .before .before .before .before .before .before .before .before .before .pre .1 .1) in
-    rw (c .before .before .before .before .before .before .before .before .before .before .row-width .ensures) (more-copied _ _ L _ _ _ _ _ _ (c .before .before .before .before .before .before .before .before .loop .inv) (c .before .before .before .before .before .before .before .next-region .ensures) (not-false _ (c .before .before .before .before .before .if1 .left)) (c .before .before .before .before .before .before .before .before .before .before .before .before .pre .1 .1) _ (c .before .before .write-row .ensures))
+    rw (c .before .before .before .before .before .before .before .before .before .before .width-of .ensures) (more-copied _ _ L _ _ _ _ _ _ (c .before .before .before .before .before .before .before .before .loop .inv) (c .before .before .before .before .before .before .before .next-region .ensures) (not-false _ (c .before .before .before .before .before .if1 .left)) (c .before .before .before .before .before .before .before .before .before .before .before .before .pre .1 .1) _ (c .before .before .write-row .ensures))
 
 pub write-all-spec : {M : Type 1} → statement M
 write-all-spec =
@@ -102,7 +103,7 @@ write-all-spec =
     (tie.spec
     Inv-loop
     μ-loop
-    row-width-requires
+    width-of-requires
     cast-n
     loop-holds
     next-region-requires

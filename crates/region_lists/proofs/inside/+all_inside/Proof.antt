@@ -72,108 +72,87 @@ all-inside-floor t c = record { intervals = search needs; ranks = search needs }
 all-inside-part : (t : ℕ) (c : all-inside-lts.Start (all-inside-claims t) (all-inside-at t) all-inside.Post all-inside-Inv-loop all-inside-μ-loop) → Four (c .args .part)
 all-inside-part t c = record { intervals = search needs; ranks = search needs }
 
--- src/inside.rt:50:8
 all-inside-is-stuck-requires : (t : ℕ) → all-inside-lts.Need-is-stuck-requires (all-inside-claims t) (all-inside-at t) all-inside.Post all-inside-Inv-loop all-inside-μ-loop
 all-inside-is-stuck-requires t c κs = search needs
 
--- src/inside.rt:51:9
 all-inside-returns : (t : ℕ) → all-inside-lts.Need-returns (all-inside-claims t) (all-inside-at t) all-inside.Post all-inside-Inv-loop all-inside-μ-loop
 all-inside-returns t c = let s = c .before .before .before in
     let a = s .args in
     visit-stuck (a .s) (s .pre .1 .1 .1 .0) (all-inside-bounds t s) (all-inside-floor t s) (a .part) (all-inside-part t s) (a .i) (s .pre .1 .1 .1 .1) (has (listed-rows (a .s .clocks .count) (now (a .list)) (a .count))) (sym (c .before .is-stuck .ensures) ∙ c .if1 .taken)
 
--- src/inside.rt:56:13
 all-inside-cast-n : (t : ℕ) → all-inside-lts.Need-cast-n (all-inside-claims t) (all-inside-at t) all-inside.Post all-inside-Inv-loop all-inside-μ-loop
 all-inside-cast-n t c = search needs
 
--- src/inside.rt:57:17
 all-inside-mul-if2 : (t : ℕ) → all-inside-lts.Need-mul-if2 (all-inside-claims t) (all-inside-at t) all-inside.Post all-inside-Inv-loop all-inside-μ-loop
 all-inside-mul-if2 t c = search needs
 
--- src/inside.rt:57:13
 all-inside-add-if2 : (t : ℕ) → all-inside-lts.Need-add-if2 (all-inside-claims t) (all-inside-at t) all-inside.Post all-inside-Inv-loop all-inside-μ-loop
 all-inside-add-if2 t c = search needs
 
--- src/inside.rt:58:9
 all-inside-arrives-inside-requires : (t : ℕ) → all-inside-lts.Need-arrives-inside-requires (all-inside-claims t) (all-inside-at t) all-inside.Post all-inside-Inv-loop all-inside-μ-loop
 all-inside-arrives-inside-requires t c κs = let s = c .before .before .before .before .before in
     let a = s .args in
     let e : a .i ≡ 1 + 2 * a .s .clocks .count = c .if2 .taken in
     (s .pre .1 .0, (s .pre .1 .1 .0, (s .pre .1 .1 .1 .0, (rw e at (s .pre .1 .1 .1 .1), rw e at (sym (c .before .before .before .is-stuck .ensures) ∙ c .before .before .if1 .left)))))
 
--- src/inside.rt:58:9
 all-inside-returns-2 : (t : ℕ) → all-inside-lts.Need-returns-2 (all-inside-claims t) (all-inside-at t) all-inside.Post all-inside-Inv-loop all-inside-μ-loop
 all-inside-returns-2 t c = let s = c .before .before .before .before .before .before in
     let a = s .args in
     let e : a .i ≡ 1 + 2 * a .s .clocks .count = c .before .if2 .taken in
     rw e (c .arrives-inside .ensures)
 
--- src/inside.rt:61:18
 all-inside-has-all-ranked-requires : (t : ℕ) → all-inside-lts.Need-has-all-ranked-requires (all-inside-claims t) (all-inside-at t) all-inside.Post all-inside-Inv-loop all-inside-μ-loop
 all-inside-has-all-ranked-requires t c κs = let s = c .before .before .before .before .before in (s .pre .1 .0, s .pre .1 .1 .0)
 
--- src/inside.rt:63:9
 all-inside-returns-3 : (t : ℕ) → all-inside-lts.Need-returns-3 (all-inside-claims t) (all-inside-at t) all-inside.Post all-inside-Inv-loop all-inside-μ-loop
 all-inside-returns-3 t c = let s = c .before .before .before .before .before .before .before in
     let a = s .args in
     let (e, all) = c .before .has-all-ranked .ensures (c .if3 .taken) in
     rw (c .if3 .taken) (visit-ranked (a .s) (a .part) (a .i) (listed-rows (a .s .clocks .count) (now (a .list)) (a .count)) e (s .pre .1 .0 .sized) (length-first (a .s .clocks .count) (a .part .intervals) (s .pre .1 .0 .few .few) (all-inside-part t s .intervals)) all)
 
--- src/inside.rt:60:9
 all-inside-last-choice-requires : (t : ℕ) → all-inside-lts.Need-last-choice-requires (all-inside-claims t) (all-inside-at t) all-inside.Post all-inside-Inv-loop all-inside-μ-loop
 all-inside-last-choice-requires t c κs = search needs
 
--- src/inside.rt:62:9
 all-inside-next-choice-requires : (t : ℕ) → all-inside-lts.Need-next-choice-requires (all-inside-claims t) (all-inside-at t) all-inside.Post all-inside-Inv-loop all-inside-μ-loop
 all-inside-next-choice-requires t c κs = search needs
 
--- src/inside.rt:63:5
 all-inside-loop-holds : (t : ℕ) → all-inside-lts.Need-loop-holds (all-inside-claims t) (all-inside-at t) all-inside.Post all-inside-Inv-loop all-inside-μ-loop
 all-inside-loop-holds t c = let s = c .before .before .before .before .before .before .before .before .before in
     let a = s .args in
     visit-begins (a .s) (s .pre .1 .1 .1 .0) (all-inside-bounds t s) (all-inside-floor t s) (a .part) (all-inside-part t s) (a .i) (s .pre .1 .1 .1 .1) (has (listed-rows (a .s .clocks .count) (now (a .list)) (a .count))) _ (c .next-choice .ensures)
 
--- src/inside.rt:64:13
 all-inside-with-number-requires : (t : ℕ) → all-inside-lts.Need-with-number-requires (all-inside-claims t) (all-inside-at t) all-inside.Post all-inside-Inv-loop all-inside-μ-loop
 all-inside-with-number-requires t c κs = (search needs, (search needs, λ h. omega (arith, c .before .before .before .last-choice .ensures .low-rank h)))
 
--- src/inside.rt:65:57
 all-inside-add-all-inside : (t : ℕ) → all-inside-lts.Need-add-all-inside (all-inside-claims t) (all-inside-at t) all-inside.Post all-inside-Inv-loop all-inside-μ-loop
 all-inside-add-all-inside t c = let p = c .before .before .before .before .before .before .before .before .before .before .before .before .pre .1 .1 .1 in omega (arith, p .0 .few .few, p .1 .within)
 
--- src/inside.rt:65:13
 all-inside-all-inside-requires : (t : ℕ) → all-inside-lts.Need-all-inside-requires (all-inside-claims t) (all-inside-at t) all-inside.Post all-inside-Inv-loop all-inside-μ-loop
 all-inside-all-inside-requires t c κs = let s = c .before .before .before .before .before .before .before .before .before .before .before .before in
     let a = s .args in
     (omega (arith, s .pre .0, s .pre .1 .1 .1 .1 .within, c .before .before .before .before .before .before .before .if2 .left), (s .pre .1 .0, (s .pre .1 .1 .0, (s .pre .1 .1 .1 .0, visit-further (a .s) (s .pre .1 .1 .1 .0) (all-inside-bounds t s) (all-inside-floor t s) (a .part) (all-inside-part t s) (a .i) (s .pre .1 .1 .1 .1) (has (listed-rows (a .s .clocks .count) (now (a .list)) (a .count))) (omega (arith, s .pre .1 .1 .1 .1 .within, c .before .before .before .before .before .before .before .if2 .left)) _ _ (c .with-number .ensures)))))
 
--- src/inside.rt:67:13
 all-inside-returns-4 : (t : ℕ) → all-inside-lts.Need-returns-4 (all-inside-claims t) (all-inside-at t) all-inside.Post all-inside-Inv-loop all-inside-μ-loop
 all-inside-returns-4 t c = let s = c .before .before .before .before .before .before .before .before .before .before .before .before .before .before .before in
     let a = s .args in
     visit-fails (a .s) (s .pre .1 .1 .1 .0) (all-inside-bounds t s) (all-inside-floor t s) (a .part) (all-inside-part t s) (a .i) (s .pre .1 .1 .1 .1) (has (listed-rows (a .s .clocks .count) (now (a .list)) (a .count))) (omega (arith, s .pre .1 .1 .1 .1 .within, c .before .before .before .before .before .before .before .before .before .before .if2 .left)) _ _ (c .before .before .before .with-number .ensures) _ (c .before .before .all-inside .ensures) (not-true _ (c .if4 .taken))
 
--- src/inside.rt:70:41
 all-inside-add-next-choice : (t : ℕ) → all-inside-lts.Need-add-next-choice (all-inside-claims t) (all-inside-at t) all-inside.Post all-inside-Inv-loop all-inside-μ-loop
 all-inside-add-next-choice t c = search needs
 
--- src/inside.rt:70:9
 all-inside-next-choice-requires-2 : (t : ℕ) → all-inside-lts.Need-next-choice-requires-2 (all-inside-claims t) (all-inside-at t) all-inside.Post all-inside-Inv-loop all-inside-μ-loop
 all-inside-next-choice-requires-2 t c κs = let s = c .before .before .before .before .before .before .before .before .before .before .before .before .before .before .before in
     let a = s .args in
     (s .pre .1 .1 .1 .0, (s .pre .1 .1 .1 .1 .begun, (omega (arith, s .pre .1 .1 .1 .1 .within, c .before .before .before .before .before .before .before .before .before .before .if2 .left))))
 
--- src/inside.rt:63:5
 all-inside-loop-less : (t : ℕ) → all-inside-lts.Need-loop-less (all-inside-claims t) (all-inside-at t) all-inside.Post all-inside-Inv-loop all-inside-μ-loop
 all-inside-loop-less t c = search needs
 
--- src/inside.rt:63:5
 all-inside-loop-again : (t : ℕ) → all-inside-lts.Need-loop-again (all-inside-claims t) (all-inside-at t) all-inside.Post all-inside-Inv-loop all-inside-μ-loop
 all-inside-loop-again t c = let s = c .before .before .before .before .before .before .before .before .before .before .before .before .before .before .before .before in
     let a = s .args in
     visit-on (a .s) (s .pre .1 .1 .1 .0) (all-inside-bounds t s) (all-inside-floor t s) (a .part) (all-inside-part t s) (a .i) (s .pre .1 .1 .1 .1) (has (listed-rows (a .s .clocks .count) (now (a .list)) (a .count))) (omega (arith, s .pre .1 .1 .1 .1 .within, c .before .before .before .before .before .before .before .before .before .before .before .if2 .left)) _ _ (c .before .before .before .before .with-number .ensures) _ (c .before .before .before .before .before .before .loop .inv) _ (c .before .before .before .all-inside .ensures) (not-false _ (c .before .if4 .left)) (c .next-choice2 .ensures)
 
--- src/inside.rt:43:1
 all-inside-returns-5 : (t : ℕ) → all-inside-lts.Need-returns-5 (all-inside-claims t) (all-inside-at t) all-inside.Post all-inside-Inv-loop all-inside-μ-loop
 all-inside-returns-5 t c = let s = c .before .before .before .before .before .before .before .before .before .before .before in
     let a = s .args in

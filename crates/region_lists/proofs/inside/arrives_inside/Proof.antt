@@ -20,21 +20,17 @@ floor c = record { intervals = search needs; ranks = search needs }
 part : (c : tie.Start) → Four (c .args .part)
 part c = record { intervals = search needs; ranks = search needs }
 
--- src/inside.rt:32:9
 is-region-requires : tie.Need-is-region-requires
 is-region-requires c κs = search needs
 
--- src/inside.rt:33:9
 returns : tie.Need-returns
 returns c = let s = c .before .before .before .before in
     let a = s .args in
     visit-no-region (a .s) (s .pre .1 .1 .0) (bounds s) (floor s) (a .part) (part s) _ (s .pre .1 .1 .1 .0) (has (listed-rows (a .s .clocks .count) (now (a .list)) (a .count))) refl (sym (c .before .is-region .ensures) ∙ not-true _ (c .if1 .taken))
 
--- src/inside.rt:38:5
 find-requires : tie.Need-find-requires
 find-requires c κs = search needs
 
--- src/inside.rt:23:1
 returns-2 : tie.Need-returns-2
 returns-2 c = let s = c .before .before .before .before .before in
     let a = s .args in

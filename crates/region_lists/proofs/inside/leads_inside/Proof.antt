@@ -18,33 +18,27 @@ bounds c = search needs
 from : (c : tie.Start) → length (c .args .from .intervals) ≡ 4
 from c = search needs
 
--- src/inside.rt:95:9
 moves-requires : tie.Need-moves-requires
 moves-requires c κs = search needs
 
--- src/inside.rt:96:26
 cast-all-permit : tie.Need-cast-all-permit
 cast-all-permit c = search needs
 
--- src/inside.rt:96:9
 all-permit-requires : tie.Need-all-permit-requires
 all-permit-requires c κs = let s = c .before .before .before in
     let a = s .args in
     (s .pre .0 .few .few, low-tops (a .clocks) (s .pre .0 .few) (bounds s) (a .from) (s .pre .1 .1 .1 .0) (a .e) (s .pre .1 .1 .0) (record { found = false; region = a .from }) _ (c .before .moves .ensures))
 
--- src/inside.rt:97:9
 returns : tie.Need-returns
 returns c = let s = c .before .before .before .before .before in
     let a = s .args in
     visit-none (a .clocks) (s .pre .0 .few) (bounds s) (a .from) (s .pre .1 .1 .1 .0) (from s) (a .e) (s .pre .1 .1 .0) _ (c .before .before .before .moves .ensures) (has (listed-rows (a .clocks .count) (now (a .list)) (a .count))) (sym (c .before .all-permit .ensures) ∙ not-true _ (c .if1 .taken))
 
--- src/inside.rt:112:5
 all-inside-requires : tie.Need-all-inside-requires
 all-inside-requires c κs = let s = c .before .before .before .before .before in
     let a = s .args in
     (s .pre .0, (s .pre .1 .0, (ready (a .clocks) (s .pre .0 .few) (bounds s) (a .from) (s .pre .1 .1 .1 .0) (a .e) (s .pre .1 .1 .0) (record { found = false; region = a .from }) _ (c .before .before .before .moves .ensures), begins (a .clocks) (s .pre .0 .few) (bounds s) (a .from) (s .pre .1 .1 .1 .0) (a .e) (s .pre .1 .1 .0) (record { found = false; region = a .from }) _ (c .before .before .before .moves .ensures) false refl)))
 
--- src/inside.rt:79:1
 returns-2 : tie.Need-returns-2
 returns-2 c = let s = c .before .before .before .before .before .before in
     let a = s .args in

@@ -7,27 +7,21 @@ use denote.Ref.{now}
 use Rattle.region_lists.proofs.leading.leads_into.Statement.{statement}
 use Rattle.region_lists.proofs.leading.leads_into.Tie as tie
 
--- src/leading.rt:61:9
 leads-inside-requires : tie.Need-leads-inside-requires
 leads-inside-requires c κs = let p = c .before .before .pre in (p .0, (p .1 .0, (p .1 .1 .0, p .1 .1 .1 .1)))
 
--- src/leading.rt:61:9
 returns : tie.Need-returns
 returns c = c .leads-inside .ensures
 
--- src/leading.rt:63:9
 image-requires : tie.Need-image-requires
 image-requires c κs = let p = c .before .before .pre in (p .0 .few, (p .1 .1 .1 .1 .0, (p .1 .1 .0, (sym (p .1 .1 .1 .0) ∙ not-false _ (c .if1 .left), p .1 .1 .1 .1 .1))))
 
--- src/leading.rt:65:9
 returns-2 : tie.Need-returns-2
 returns-2 c = let a = c .before .before .before .before .before .args in let k = a .clocks .count in let rows = listed-rows k (now (a .list)) (a .count) in sole-missing k (has rows) _ (c .before .before .image .result) (c .before .before .image .ensures) (not-true _ (c .if2 .taken))
 
--- src/leading.rt:71:5
 find-requires : tie.Need-find-requires
 find-requires c κs = let p = c .before .before .before .before .before .before .pre in (p .0, p .1 .0)
 
--- src/leading.rt:42:1
 returns-3 : tie.Need-returns-3
 returns-3 c = let a = c .before .before .before .before .before .before .before .args in let k = a .clocks .count in let rows = listed-rows k (now (a .list)) (a .count) in sole-found k (has rows) _ (c .before .before .before .before .image .result) (c .before .before .before .before .image .ensures) (not-false _ (c .before .before .if2 .left)) _ (c .find .ensures)
 

@@ -3,23 +3,18 @@ use borrow.Author.Needs.{needs}
 use Rattle.region_lists.proofs.leading.row_at_turn.Statement.{statement}
 use Rattle.region_lists.proofs.leading.row_at_turn.Tie as tie
 
--- src/leading.rt:169:16
 sub-result : tie.Need-sub-result
 sub-result c = search needs
 
--- src/leading.rt:169:16
 sub-result-2 : tie.Need-sub-result-2
 sub-result-2 c = search needs
 
--- src/leading.rt:169:9
 returns : tie.Need-returns
 returns c = turned-last _ _ _ _ (c .if1 .taken)
 
--- src/leading.rt:171:5
 add-result : tie.Need-add-result
 add-result c = search needs
 
--- src/leading.rt:164:1
 returns-2 : tie.Need-returns-2
 returns-2 c = turned-first _ _ _ _ (c .if1 .left)
 

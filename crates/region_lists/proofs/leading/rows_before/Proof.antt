@@ -5,15 +5,12 @@ use borrow.Author.Needs.{needs}
 use Rattle.region_lists.proofs.leading.rows_before.Statement.{statement}
 use Rattle.region_lists.proofs.leading.rows_before.Tie as tie
 
--- src/leading.rt:140:44
 mul-rows-below : tie.Need-mul-rows-below
 mul-rows-below c = let s = c .before .pre .0 .short in omega arith
 
--- src/leading.rt:140:5
 rows-below-requires : tie.Need-rows-below-requires
 rows-below-requires c κs = search needs
 
--- src/leading.rt:130:1
 returns : tie.Need-returns
 returns c = let a = c .before .before .args in let p = c .before .before .pre in starts (a .clocks .count) (now (a .list)) (a .count) (a .location) _ (p .0 .few .few) (c .rows-below .ensures)
 

@@ -15,31 +15,24 @@ Inv-loop list n count start location i₀ i = (start ≤ i) × (i ≤ count) × 
 abbrev μ-loop : tie.MeasureT-loop
 μ-loop list n count start location i₀ i = count - i
 
--- src/leading.rt:154:5
 loop-holds : tie.Need-loop-holds Inv-loop μ-loop
 loop-holds c = (omega arith, c .before .pre .1 .1 .0, λ j h l. absurd (omega arith))
 
--- src/leading.rt:155:12
 location-at-requires : tie.Need-location-at-requires Inv-loop μ-loop
 location-at-requires c κs = let p = c .before .before .before .pre in (p .0, row-room _ _ _ _ (p .1 .0) (c .loop-test .taken))
 
--- src/leading.rt:156:13
 returns : tie.Need-returns Inv-loop μ-loop
 returns c = let v = c .before .before .before .loop .inv in record { from = v .0; within = v .1; all = v .2; next = λ h q. c .if1 .taken (c .before .location-at .ensures ∙ q) }
 
--- src/leading.rt:158:9
 add-i : tie.Need-add-i Inv-loop μ-loop
 add-i c = omega (arith, c .before .before .loop-test .taken, c .before .before .before .before .before .pre .1 .1 .1)
 
--- src/leading.rt:154:5
 loop-less : tie.Need-loop-less Inv-loop μ-loop
 loop-less c = search needs
 
--- src/leading.rt:154:5
 loop-again : tie.Need-loop-again Inv-loop μ-loop
 loop-again c = let v = c .before .before .before .loop .inv in (omega (arith, v .0), omega (arith, c .before .before .loop-test .taken), one-more (λ (j : ℕ). listed-row (c .before .before .before .before .before .args .n) (now (c .before .before .before .before .before .args .list)) j .location) _ _ _ (v .2) (sym (c .before .location-at .ensures) ∙ c .if1 .left))
 
--- src/leading.rt:147:1
 returns-2 : tie.Need-returns-2 Inv-loop μ-loop
 returns-2 c = let v = c .before .loop .inv in record { from = v .0; within = v .1; all = v .2; next = λ h q. omega (arith, c .loop-test .left) }
 

@@ -16,47 +16,36 @@ Inv-loop table head list count n i₀ i = NoneFinalTo n list count (table-of tab
 abbrev μ-loop : tie.MeasureT-loop
 μ-loop table head list count n i₀ i = count - i
 
--- src/list_order.rt:42:13
 cast-n : tie.Need-cast-n Inv-loop μ-loop
 cast-n c = search needs
 
--- src/list_order.rt:44:5
 loop-holds : tie.Need-loop-holds Inv-loop μ-loop
 loop-holds c = final-none _ _ _ _
 
--- src/list_order.rt:45:34
 location-at-requires : tie.Need-location-at-requires Inv-loop μ-loop
 location-at-requires c κs = let p = c .before .before .before .before .before .before .pre .1 .0 in let v = c .before .loop .inv in let l = c .loop-test .taken in (p .few .few, row-room _ _ _ _ (p .room) (omega arith))
 
--- src/list_order.rt:45:12
 is-final-requires : tie.Need-is-final-requires Inv-loop μ-loop
 is-final-requires c κs = (c .before .before .before .before .before .before .before .pre .0, omega (arith, c .location-at .ensures, c .before .before .before .before .before .before .before .pre .1 .1 _ (c .before .loop-test .taken)))
 
--- src/list_order.rt:46:21
 add-result : tie.Need-add-result Inv-loop μ-loop
 add-result c = search needs
 
--- src/list_order.rt:46:20
 cast-result : tie.Need-cast-result Inv-loop μ-loop
 cast-result c = search needs
 
--- src/list_order.rt:46:13
 returns : tie.Need-returns Inv-loop μ-loop
 returns c = let a = c .before .before .before .before .before .before .before .before .before .args in let k = a .head .clocks .count in let l = now (a .list) in let T = table-of (now (a .table)) in final-found k l (a .count) T _ (c .before .before .before .before .loop .inv) (c .before .before .before .loop-test .taken) (ap (final T) (sym (c .before .before .location-at .ensures)) ∙ sym (c .before .is-final .ensures) ∙ c .if1 .taken)
 
--- src/list_order.rt:48:9
 add-i : tie.Need-add-i Inv-loop μ-loop
 add-i c = search needs
 
--- src/list_order.rt:44:5
 loop-less : tie.Need-loop-less Inv-loop μ-loop
 loop-less c = search needs
 
--- src/list_order.rt:44:5
 loop-again : tie.Need-loop-again Inv-loop μ-loop
 loop-again c = let a = c .before .before .before .before .before .before .before .before .before .args in let k = a .head .clocks .count in let l = now (a .list) in let T = table-of (now (a .table)) in final-on k l (a .count) T _ (c .before .before .before .before .loop .inv) (c .before .before .before .loop-test .taken) (ap (final T) (sym (c .before .before .location-at .ensures)) ∙ sym (c .before .is-final .ensures) ∙ c .if1 .left)
 
--- src/list_order.rt:35:1
 returns-2 : tie.Need-returns-2 Inv-loop μ-loop
 returns-2 c = final-all _ _ _ _ _ (c .before .loop .inv) (c .loop-test .left)
 

@@ -17,55 +17,42 @@ Inv-loop list count n i₀ i = OrderedTo n list count i
 abbrev μ-loop : tie.MeasureT-loop
 μ-loop list count n i₀ i = count - i
 
--- src/list_order.rt:22:13
 cast-n : tie.Need-cast-n Inv-loop μ-loop
 cast-n c = search needs
 
--- src/list_order.rt:24:5
 loop-holds : tie.Need-loop-holds Inv-loop μ-loop
 loop-holds c = ordered-none _ _ _
 
--- src/list_order.rt:24:11
 add-loop : tie.Need-add-loop Inv-loop μ-loop
 add-loop c = search needs
 
--- src/list_order.rt:25:36
 add-row-at : tie.Need-add-row-at Inv-loop μ-loop
 add-row-at c = search needs
 
--- src/list_order.rt:25:13
 row-at-requires : tie.Need-row-at-requires Inv-loop μ-loop
 row-at-requires c κs = let p = c .before .before .before .before .pre in let v = c .before .loop .inv in let l = c .loop-test .taken in (p .few .few, row-room _ _ _ _ (p .room) (omega arith))
 
--- src/list_order.rt:26:13
 row-is-below-requires : tie.Need-row-is-below-requires Inv-loop μ-loop
 row-is-below-requires c κs = let p = c .before .before .before .before .before .pre in let v = c .before .before .loop .inv in let l = c .before .loop-test .taken in (p .few .few, row-room _ _ _ _ (p .room) (omega arith))
 
--- src/list_order.rt:27:21
 add-result : tie.Need-add-result Inv-loop μ-loop
 add-result c = search needs
 
--- src/list_order.rt:27:20
 cast-result : tie.Need-cast-result Inv-loop μ-loop
 cast-result c = search needs
 
--- src/list_order.rt:27:13
 returns : tie.Need-returns Inv-loop μ-loop
 returns c = let a = c .before .before .before .before .before .before .before .args in let k = a .clocks .count in let l = now (a .list) in ordered-fails k l (a .count) _ (c .before .before .before .before .loop .inv) (c .before .before .before .loop-test .taken) (ap (belowb (listed-row k l _)) (sym (listed-again k l _ _ (c .before .before .row-at .ensures))) ∙ sym (c .before .row-is-below .ensures) ∙ not-true _ (c .if1 .taken))
 
--- src/list_order.rt:29:9
 add-i : tie.Need-add-i Inv-loop μ-loop
 add-i c = search needs
 
--- src/list_order.rt:24:5
 loop-less : tie.Need-loop-less Inv-loop μ-loop
 loop-less c = search needs
 
--- src/list_order.rt:24:5
 loop-again : tie.Need-loop-again Inv-loop μ-loop
 loop-again c = let a = c .before .before .before .before .before .before .before .args in let k = a .clocks .count in let l = now (a .list) in ordered-on k l (a .count) _ (c .before .before .before .before .loop .inv) (c .before .before .before .loop-test .taken) (ap (belowb (listed-row k l _)) (sym (listed-again k l _ _ (c .before .before .row-at .ensures))) ∙ sym (c .before .row-is-below .ensures) ∙ not-false _ (c .if1 .left))
 
--- src/list_order.rt:18:1
 returns-2 : tie.Need-returns-2 Inv-loop μ-loop
 returns-2 c = ordered-all _ _ _ _ (c .before .loop .inv) (c .loop-test .left)
 

@@ -1,34 +1,25 @@
-use Rattle.region_lists.proofs.Laws.ListedNumbers.{listed-location}
+use native.Mathlib.Omega.{arith}
+use mathlib.Core.Path.{ap, _∙_}
+use mathlib.Core.List.{List}
+use lib.ListN.{length}
 use denote.Ref.{now}
+use Rattle.automata.specs.Clocks.{at}
+use Rattle.region_lists.proofs.Laws.ListedNumbers.{bytes-long, listed-location}
 use borrow.Author.Needs.{needs}
 use Rattle.region_lists.proofs.listed.location_at.Statement.{statement}
 use Rattle.region_lists.proofs.listed.location_at.Tie as tie
 
--- src/listed.rt:32:23
-mul-result : tie.Need-mul-result
-mul-result c = search needs
+row-bytes-requires : tie.Need-row-bytes-requires
+row-bytes-requires c κs = search needs
 
--- src/listed.rt:32:19
-add-result : tie.Need-add-result
-add-result c = search needs
-
--- src/listed.rt:32:14
-mul-result-2 : tie.Need-mul-result-2
-mul-result-2 c = search needs
-
--- src/listed.rt:32:10
-add-result-2 : tie.Need-add-result-2
-add-result-2 c = search needs
-
--- src/listed.rt:32:5
 shared-slice-read-result : tie.Need-shared-slice-read-result
-shared-slice-read-result c = search needs
+shared-slice-read-result c = let a = c .before .before .before .args in
+    let long = ap length (c .before .row-bytes .ensures) ∙ bytes-long (a .n) (now (a .list)) (a .i) (c .before .before .before .pre .1) in
+    search needs
 
--- src/listed.rt:27:1
 returns : tie.Need-returns
-returns c = let a = c .before .args in listed-location (a .n) (now (a .list)) (a .i)
+returns c = let a = c .before .before .before .args in
+    ap (λ (b : List _). at b 2) (c .before .row-bytes .ensures) ∙ listed-location (a .n) (now (a .list)) (a .i)
 
 pub location-at-spec : {M : Type 1} → statement M
-location-at-spec =
-    tie.close
-    (tie.spec mul-result add-result mul-result-2 add-result-2 shared-slice-read-result returns)
+location-at-spec = tie.close (tie.spec row-bytes-requires shared-slice-read-result returns)

@@ -7,19 +7,15 @@ use borrow.Author.Needs.{needs}
 use Rattle.region_lists.proofs.listed.row_is.Statement.{statement}
 use Rattle.region_lists.proofs.listed.row_is.Tie as tie
 
--- src/listed.rt:65:5
 shared-with-requires : tie.Need-shared-with-requires
 shared-with-requires c κs = search needs
 
--- src/listed.rt:65:44
 mul-result : tie.Need-mul-result
 mul-result c = search needs
 
--- src/listed.rt:65:40
 add-result : tie.Need-add-result
 add-result c = search needs
 
--- src/listed.rt:60:1
 returns : tie.Need-returns
 returns c = let a = c .before .before .args in ap (λ (k : ℕ). eqb k (1 + 2 * a .n)) (c .shared-with .ensures) ∙ listed-same (a .n) (now (a .list)) (a .i) (a .wanted) (search needs) (search needs, search needs)
 

@@ -6,11 +6,9 @@ use borrow.Author.Needs.{needs}
 use Rattle.region_lists.proofs.listed.row_is_beside.Statement.{statement}
 use Rattle.region_lists.proofs.listed.row_is_beside.Tie as tie
 
--- src/listed.rt:84:9
 shared-with-requires : tie.Need-shared-with-requires
 shared-with-requires c κs = search needs
 
--- src/listed.rt:79:1
 returns : tie.Need-returns
 returns c = let a = c .before .before .args in ap (ltb (a .n)) (c .shared-with .ensures) ∙ listed-beside (a .n) (now (a .list)) (a .i) (a .wanted) (search needs) (search needs)
 

@@ -15,43 +15,33 @@ Inv-loop list count wanted hint n low₀ high₀ low high = Searched (listed-row
 abbrev μ-loop : tie.MeasureT-loop
 μ-loop list count wanted hint n low₀ high₀ low high = high - low
 
--- src/listed.rt:97:13
 cast-n : tie.Need-cast-n Inv-loop μ-loop
 cast-n c = search needs
 
--- src/listed.rt:100:5
 loop-holds : tie.Need-loop-holds Inv-loop μ-loop
 loop-holds c = searched-nothing _ _ _
 
--- src/listed.rt:101:13
 guess-requires : tie.Need-guess-requires Inv-loop μ-loop
 guess-requires c κs = search needs
 
--- src/listed.rt:102:12
 row-is-below-requires : tie.Need-row-is-below-requires Inv-loop μ-loop
 row-is-below-requires c κs = let p = c .before .before .before .before .before .pre .0 in let v = c .before .before .loop .inv in let g = c .guess .ensures .1 in (p .few .few, row-room _ _ _ _ (p .room) (omega (arith, v .within)))
 
--- src/listed.rt:103:19
 add-low : tie.Need-add-low Inv-loop μ-loop
 add-low c = search needs
 
--- src/listed.rt:100:5
 loop-less : tie.Need-loop-less Inv-loop μ-loop
 loop-less c = search needs
 
--- src/listed.rt:100:5
 loop-again : tie.Need-loop-again Inv-loop μ-loop
 loop-again c = let a = c .before .before .before .before .before .before .before .args in let p = c .before .before .before .before .before .before .before .pre in let v = c .before .before .before .before .loop .inv in searched-up _ _ _ _ _ v (listed-rise (a .clocks .count) (now (a .list)) (a .count) (p .1)) _ (c .before .before .guess .ensures .0) (c .before .before .guess .ensures .1) (sym (c .before .row-is-below .ensures) ∙ c .if1 .taken)
 
--- src/listed.rt:100:5
 loop-less-2 : tie.Need-loop-less-2 Inv-loop μ-loop
 loop-less-2 c = search needs
 
--- src/listed.rt:100:5
 loop-again-2 : tie.Need-loop-again-2 Inv-loop μ-loop
 loop-again-2 c = let a = c .before .before .before .before .before .before .before .args in let p = c .before .before .before .before .before .before .before .pre in let v = c .before .before .before .before .loop .inv in searched-down _ _ _ _ _ v (listed-rise (a .clocks .count) (now (a .list)) (a .count) (p .1)) _ (c .before .before .guess .ensures .0) (c .before .before .guess .ensures .1) (sym (c .before .row-is-below .ensures) ∙ c .if1 .left)
 
--- src/listed.rt:92:1
 returns : tie.Need-returns Inv-loop μ-loop
 returns c = searched-all _ _ _ _ _ (c .before .loop .inv) (c .loop-test .left)
 

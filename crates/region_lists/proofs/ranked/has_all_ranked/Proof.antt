@@ -10,47 +10,36 @@ use borrow.Author.Needs.{needs}
 use Rattle.region_lists.proofs.ranked.has_all_ranked.Statement.{statement}
 use Rattle.region_lists.proofs.ranked.has_all_ranked.Tie as tie
 
--- src/ranked.rt:47:13
 cast-n : tie.Need-cast-n
 cast-n c = search needs
 
--- src/ranked.rt:48:13
 add-if1 : tie.Need-add-if1
 add-if1 c = search needs
 
--- src/ranked.rt:49:9
 returns : tie.Need-returns
 returns c = λ t. never t
 
--- src/ranked.rt:54:9
 rows-below-requires : tie.Need-rows-below-requires
 rows-below-requires c κs = search needs
 
--- src/ranked.rt:55:36
 open-clocks-requires : tie.Need-open-clocks-requires
 open-clocks-requires c κs = search needs
 
--- src/ranked.rt:55:23
 ways-to-rank-requires : tie.Need-ways-to-rank-requires
 ways-to-rank-requires c κs = search needs
 
--- src/ranked.rt:55:15
 add-end : tie.Need-add-end
 add-end c = let s = c .before .before .rows-below .ensures .within in let l = c .before .before .before .before .before .before .pre .0 .short in let w = few-ways _ _ (c .ways-to-rank .ensures) in omega (arith, w .1)
 
--- src/ranked.rt:57:9
 returns-2 : tie.Need-returns-2
 returns-2 c = λ t. never t
 
--- src/ranked.rt:63:40
 sub-row-is-beside : tie.Need-sub-row-is-beside
 sub-row-is-beside c = let w = few-ways _ _ (c .before .ways-to-rank .ensures) in omega (arith, w .0)
 
--- src/ranked.rt:63:17
 row-is-beside-requires : tie.Need-row-is-beside-requires
 row-is-beside-requires c κs = let p = c .before .before .before .before .before .before .before .pre .0 in let w = few-ways _ _ (c .before .ways-to-rank .ensures) in (p .few .few, row-room _ _ _ _ (p .room) (omega (arith, w .0, c .if2 .left)))
 
--- src/ranked.rt:35:1
 returns-3 : tie.Need-returns-3
 returns-3 c = let s = c .before .before .before .before .before .before .before .before in
     let a = s .args in

@@ -3,19 +3,15 @@ use Rattle.region_lists.proofs.Laws.Ranked.{ways-one, ways-three, ways-
 use Rattle.region_lists.proofs.ranked.ways_to_rank.Statement.{statement}
 use Rattle.region_lists.proofs.ranked.ways_to_rank.Tie as tie
 
--- src/ranked.rt:22:9
 returns : tie.Need-returns
 returns c = ways-one _ (c .if1 .taken)
 
--- src/ranked.rt:25:9
 returns-2 : tie.Need-returns-2
 returns-2 c = ways-three _ (c .if2 .taken)
 
--- src/ranked.rt:28:9
 returns-3 : tie.Need-returns-3
 returns-3 c = ways-thirteen _ (c .if3 .taken)
 
--- src/ranked.rt:18:1
 returns-4 : tie.Need-returns-4
 returns-4 c = ways-most _ (λ h. omega (arith, c .before .before .if1 .left)) (c .before .if2 .left) (c .if3 .left)
 

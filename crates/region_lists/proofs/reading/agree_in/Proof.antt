@@ -3,35 +3,27 @@ use borrow.Author.Needs.{needs}
 use Rattle.region_lists.proofs.reading.agree_in.Statement.{statement}
 use Rattle.region_lists.proofs.reading.agree_in.Tie as tie
 
--- src/reading.rt:22:8
 mul-if1 : tie.Need-mul-if1
 mul-if1 c = search needs
 
--- src/reading.rt:22:8
 element-copy-out-if1 : tie.Need-element-copy-out-if1
 element-copy-out-if1 c = search needs
 
--- src/reading.rt:22:26
 mul-if1-2 : tie.Need-mul-if1-2
 mul-if1-2 c = search needs
 
--- src/reading.rt:22:26
 element-copy-out-if1-2 : tie.Need-element-copy-out-if1-2
 element-copy-out-if1-2 c = search needs
 
--- src/reading.rt:23:9
 returns : tie.Need-returns
 returns c = agree-not _ (c .before .before .before .args .t2) (c .before .before .before .args .t3) _ (c .before .before .before .pre .1) (c .if1 .taken)
 
--- src/reading.rt:25:5
 element-copy-out-result : tie.Need-element-copy-out-result
 element-copy-out-result c = search needs
 
--- src/reading.rt:25:19
 element-copy-out-result-2 : tie.Need-element-copy-out-result-2
 element-copy-out-result-2 c = search needs
 
--- src/reading.rt:17:1
 returns-2 : tie.Need-returns-2
 returns-2 c = agree-ranks _ (c .before .before .before .before .before .args .t2) (c .before .before .before .before .before .args .t3) _ (c .before .before .before .before .before .pre .1) (c .before .before .if1 .left)
 

@@ -3,39 +3,30 @@ use borrow.Author.Needs.{needs}
 use Rattle.region_lists.proofs.reading.allows_no_more.Statement.{statement}
 use Rattle.region_lists.proofs.reading.allows_no_more.Tie as tie
 
--- src/reading.rt:85:25
 enum-told : tie.Need-enum-told
 enum-told c = search needs
 
--- src/reading.rt:85:25
 agree-in-requires : tie.Need-agree-in-requires
 agree-in-requires c κs = search needs
 
--- src/reading.rt:86:32
 enum-told-2 : tie.Need-enum-told-2
 enum-told-2 c = search needs
 
--- src/reading.rt:87:23
 enum-known-a : tie.Need-enum-known-a
 enum-known-a c = search needs
 
--- src/reading.rt:87:67
 cast-term-allows-no-more : tie.Need-cast-term-allows-no-more
 cast-term-allows-no-more c = search needs
 
--- src/reading.rt:87:39
 term-allows-no-more-requires : tie.Need-term-allows-no-more-requires
 term-allows-no-more-requires c κs = let p = c .before .before .before .pre in let q = rw (c .before .a .given .1) at (p .1 .1 .1) in (p .0 .few, (p .1 .1 .0, omega (arith, q .0, p .1 .0)))
 
--- src/reading.rt:77:1
 returns : tie.Need-returns
 returns c = rw (c .before .enum-told .given .1) (c .agree-in .ensures)
 
--- src/reading.rt:77:1
 returns-2 : tie.Need-returns-2
 returns-2 c = search needs
 
--- src/reading.rt:77:1
 returns-3 : tie.Need-returns-3
 returns-3 c = rw (c .before .before .a .given .1) (c .term-allows-no-more .ensures)
 

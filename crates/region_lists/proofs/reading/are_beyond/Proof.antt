@@ -4,31 +4,24 @@ use borrow.Author.Needs.{needs}
 use Rattle.region_lists.proofs.reading.are_beyond.Statement.{statement}
 use Rattle.region_lists.proofs.reading.are_beyond.Tie as tie
 
--- src/reading.rt:46:8
 is-under-requires : tie.Need-is-under-requires
 is-under-requires c κs = search needs
 
--- src/reading.rt:47:9
 is-under-requires-2 : tie.Need-is-under-requires-2
 is-under-requires-2 c κs = search needs
 
--- src/reading.rt:47:9
 returns : tie.Need-returns
 returns c = let a = c .before .before .before .args in c .is-under2 .ensures ∙ beyond-under (a .bound) (a .one) (a .other) (a .up) (a .down) (sym (c .before .before .is-under .ensures) ∙ c .before .if1 .taken)
 
--- src/reading.rt:49:8
 is-over-requires : tie.Need-is-over-requires
 is-over-requires c κs = search needs
 
--- src/reading.rt:50:9
 is-over-requires-2 : tie.Need-is-over-requires-2
 is-over-requires-2 c κs = search needs
 
--- src/reading.rt:50:9
 returns-2 : tie.Need-returns-2
 returns-2 c = let a = c .before .before .before .before .before .args in c .is-over2 .ensures ∙ beyond-over (a .bound) (a .one) (a .other) (a .up) (a .down) (sym (c .before .before .before .before .is-under .ensures) ∙ c .before .before .before .if1 .left) (sym (c .before .before .is-over .ensures) ∙ c .before .if2 .taken)
 
--- src/reading.rt:43:1
 returns-3 : tie.Need-returns-3
 returns-3 c = let a = c .before .before .before .before .args in beyond-not (a .bound) (a .one) (a .other) (a .up) (a .down) (sym (c .before .before .before .is-under .ensures) ∙ c .before .before .if1 .left) (sym (c .before .is-over .ensures) ∙ c .if2 .left)
 

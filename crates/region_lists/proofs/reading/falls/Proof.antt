@@ -9,39 +9,30 @@ Inv-loop e z₀ z = z ≤ 4
 abbrev μ-loop : tie.MeasureT-loop
 μ-loop e z₀ z = 4 - z
 
--- src/reading.rt:165:5
 loop-holds : tie.Need-loop-holds Inv-loop μ-loop
 loop-holds c = search needs
 
--- src/reading.rt:166:17
 mul-u : tie.Need-mul-u Inv-loop μ-loop
 mul-u c = search needs
 
--- src/reading.rt:166:17
 element-copy-out-u : tie.Need-element-copy-out-u Inv-loop μ-loop
 element-copy-out-u c = search needs
 
--- src/reading.rt:167:12
 rises-requires : tie.Need-rises-requires Inv-loop μ-loop
 rises-requires c κs = search needs
 
--- src/reading.rt:168:13
 returns : tie.Need-returns Inv-loop μ-loop
 returns c = search needs
 
--- src/reading.rt:170:9
 add-z : tie.Need-add-z Inv-loop μ-loop
 add-z c = search needs
 
--- src/reading.rt:165:5
 loop-less : tie.Need-loop-less Inv-loop μ-loop
 loop-less c = search needs
 
--- src/reading.rt:165:5
 loop-again : tie.Need-loop-again Inv-loop μ-loop
 loop-again c = search needs
 
--- src/reading.rt:163:1
 returns-2 : tie.Need-returns-2 Inv-loop μ-loop
 returns-2 c = search needs
 

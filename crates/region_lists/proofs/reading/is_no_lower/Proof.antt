@@ -3,51 +3,39 @@ use borrow.Author.Needs.{needs}
 use Rattle.region_lists.proofs.reading.is_no_lower.Statement.{statement}
 use Rattle.region_lists.proofs.reading.is_no_lower.Tie as tie
 
--- src/reading.rt:61:8
 mul-if1 : tie.Need-mul-if1
 mul-if1 c = search needs
 
--- src/reading.rt:61:8
 element-copy-out-if1 : tie.Need-element-copy-out-if1
 element-copy-out-if1 c = search needs
 
--- src/reading.rt:61:26
 mul-if1-2 : tie.Need-mul-if1-2
 mul-if1-2 c = search needs
 
--- src/reading.rt:61:26
 element-copy-out-if1-2 : tie.Need-element-copy-out-if1-2
 element-copy-out-if1-2 c = search needs
 
--- src/reading.rt:62:16
 mul-result : tie.Need-mul-result
 mul-result c = search needs
 
--- src/reading.rt:62:16
 element-copy-out-result : tie.Need-element-copy-out-result
 element-copy-out-result c = search needs
 
--- src/reading.rt:62:33
 mul-result-2 : tie.Need-mul-result-2
 mul-result-2 c = search needs
 
--- src/reading.rt:62:33
 element-copy-out-result-2 : tie.Need-element-copy-out-result-2
 element-copy-out-result-2 c = search needs
 
--- src/reading.rt:62:9
 returns : tie.Need-returns
 returns c = let a = c .before .before .before .before .before .args in no-lower-intervals _ (a .t2) (a .t3) _ (c .before .before .before .before .before .pre .1) (c .before .before .if1 .taken)
 
--- src/reading.rt:64:5
 element-copy-out-result-3 : tie.Need-element-copy-out-result-3
 element-copy-out-result-3 c = search needs
 
--- src/reading.rt:64:19
 element-copy-out-result-4 : tie.Need-element-copy-out-result-4
 element-copy-out-result-4 c = search needs
 
--- src/reading.rt:56:1
 returns-2 : tie.Need-returns-2
 returns-2 c = let a = c .before .before .before .before .before .args in no-lower-ranks _ (a .t2) (a .t3) _ (c .before .before .before .before .before .pre .1) (c .before .before .if1 .left)
 

@@ -5,35 +5,27 @@ use borrow.Author.Needs.{needs}
 use Rattle.region_lists.proofs.reading.orders_no_more.Statement.{statement}
 use Rattle.region_lists.proofs.reading.orders_no_more.Tie as tie
 
--- src/reading.rt:76:17
 holds-requires : tie.Need-holds-requires
 holds-requires c κs = search needs
 
--- src/reading.rt:77:17
 holds-requires-2 : tie.Need-holds-requires-2
 holds-requires-2 c κs = search needs
 
--- src/reading.rt:79:9
 agree-in-requires : tie.Need-agree-in-requires
 agree-in-requires c κs = search needs
 
--- src/reading.rt:79:9
 returns : tie.Need-returns
 returns c = let a = c .before .before .before .before .args in let n = a .clocks .count in c .agree-in .ensures ∙ orders-equal (a .comparison) (row-of n (a .r)) (row-of n (a .s)) (a .y) _ _ (c .before .before .before .holds .ensures) (c .before .before .holds2 .ensures) (c .before .if1 .taken)
 
--- src/reading.rt:82:9
 is-no-lower-requires : tie.Need-is-no-lower-requires
 is-no-lower-requires c κs = search needs
 
--- src/reading.rt:82:9
 returns-2 : tie.Need-returns-2
 returns-2 c = let a = c .before .before .before .before .before .args in let n = a .clocks .count in c .is-no-lower .ensures ∙ orders-above (a .comparison) (row-of n (a .r)) (row-of n (a .s)) (a .y) _ _ (c .before .before .before .before .holds .ensures) (c .before .before .before .holds2 .ensures) (c .before .before .if1 .left) (c .before .if2 .taken)
 
--- src/reading.rt:84:5
 is-no-lower-requires-2 : tie.Need-is-no-lower-requires-2
 is-no-lower-requires-2 c κs = search needs
 
--- src/reading.rt:71:1
 returns-3 : tie.Need-returns-3
 returns-3 c = let a = c .before .before .before .before .before .args in let n = a .clocks .count in c .is-no-lower2 .ensures ∙ orders-below (a .comparison) (row-of n (a .r)) (row-of n (a .s)) (a .y) _ _ (c .before .before .before .before .holds .ensures) (c .before .before .before .holds2 .ensures) (c .before .before .if1 .left) (c .before .if2 .left)
 

@@ -6,27 +6,21 @@ use Rattle.region_lists.proofs.Laws.RegionCall.{opened-refused, opened-
 use Rattle.region_lists.proofs.region_list.check_regions.Statement.{statement}
 use Rattle.region_lists.proofs.region_list.check_regions.Tie as tie
 
--- src/region_list.rt:67:9
 open-requires : tie.Need-open-requires
 open-requires c κs = search needs
 
--- src/region_list.rt:69:9
 returns : tie.Need-returns
 returns c = promises (now (c .before .before .before .before .before .args .table)) (now (c .before .before .before .before .before .args .list)) _ (are-bytes (now (c .before .before .before .before .before .args .list)) (λ z l. omega (arith, c .before .before .before .shared-slice-known2 .given z))) (opened-refused (now (c .before .before .before .before .before .args .table)) (c .before .before .«open» .result) (c .before .before .«open» .ensures) (now (c .before .before .before .before .before .args .list)) (c .if1 .taken))
 
--- src/region_list.rt:72:9
 read-list-requires : tie.Need-read-list-requires
 read-list-requires c κs = opened-good (now (c .before .before .before .before .before .before .args .table)) (c .before .before .before .«open» .result) (c .before .before .before .«open» .ensures) (c .before .if1 .left)
 
--- src/region_list.rt:74:9
 returns-2 : tie.Need-returns-2
 returns-2 c = promises (now (c .before .before .before .before .before .before .before .before .before .args .table)) (now (c .before .before .before .before .before .before .before .before .before .args .list)) _ (are-bytes (now (c .before .before .before .before .before .before .before .before .before .args .list)) (λ z l. omega (arith, c .before .before .before .before .before .before .before .shared-slice-known2 .given z))) (read-refused (now (c .before .before .before .before .before .before .before .before .before .args .table)) (now (c .before .before .before .before .before .before .before .before .before .args .list)) (c .before .before .before .before .before .before .«open» .result .head) (opened-good (now (c .before .before .before .before .before .before .before .before .before .args .table)) (c .before .before .before .before .before .before .«open» .result) (c .before .before .before .before .before .before .«open» .ensures) (c .before .before .before .before .if1 .left)) (c .before .before .read-list .result .number) (c .before .before .read-list .result .place) (c .before .before .read-list .ensures .0) (c .if2 .taken))
 
--- src/region_list.rt:76:5
 check-rows-requires : tie.Need-check-rows-requires
 check-rows-requires c κs = (opened-good (now (c .before .before .before .before .before .before .before .before .before .args .table)) (c .before .before .before .before .before .before .«open» .result) (c .before .before .before .before .before .before .«open» .ensures) (c .before .before .before .before .if1 .left), (read-told (now (c .before .before .before .before .before .before .before .before .before .args .table)) (now (c .before .before .before .before .before .before .before .before .before .args .list)) (c .before .before .before .before .before .before .«open» .result .head) (opened-good (now (c .before .before .before .before .before .before .before .before .before .args .table)) (c .before .before .before .before .before .before .«open» .result) (c .before .before .before .before .before .before .«open» .ensures) (c .before .before .before .before .if1 .left)) (c .before .before .read-list .result .number) (c .before .before .read-list .result .place) (c .before .before .read-list .ensures .0) (c .if2 .left), c .before .before .read-list .ensures .1 (c .if2 .left)))
 
--- src/region_list.rt:61:1
 returns-3 : tie.Need-returns-3
 returns-3 c = promises (now (c .before .before .before .before .before .before .before .before .before .before .args .table)) (now (c .before .before .before .before .before .before .before .before .before .before .args .list)) _ (are-bytes (now (c .before .before .before .before .before .before .before .before .before .before .args .list)) (λ z l. omega (arith, c .before .before .before .before .before .before .before .before .shared-slice-known2 .given z))) (rows-answer (now (c .before .before .before .before .before .before .before .before .before .before .args .table)) (now (c .before .before .before .before .before .before .before .before .before .before .args .list)) (c .before .before .before .before .before .before .before .«open» .result .head) (opened-good (now (c .before .before .before .before .before .before .before .before .before .before .args .table)) (c .before .before .before .before .before .before .before .«open» .result) (c .before .before .before .before .before .before .before .«open» .ensures) (c .before .before .before .before .before .if1 .left)) _ (c .check-rows .ensures))
 

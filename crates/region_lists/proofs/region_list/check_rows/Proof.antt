@@ -5,51 +5,39 @@ use borrow.Author.Needs.{needs}
 use Rattle.region_lists.proofs.region_list.check_rows.Statement.{statement}
 use Rattle.region_lists.proofs.region_list.check_rows.Tie as tie
 
--- src/region_list.rt:37:9
 first-unordered-requires : tie.Need-first-unordered-requires
 first-unordered-requires c κs = list-listed (now (c .before .before .before .args .table)) (now (c .before .before .before .args .list)) (c .before .before .before .args .head) (c .before .before .before .args .count) (c .before .before .before .pre .0) (c .before .before .before .pre .1 .0) (c .before .before .before .pre .1 .1)
 
--- src/region_list.rt:39:9
 returns : tie.Need-returns
 returns c = refused-14 (now (c .before .before .before .before .before .args .table)) (now (c .before .before .before .before .before .args .list)) (c .before .before .before .before .before .args .head) (c .before .before .before .before .before .args .count) (c .before .before .before .before .before .pre .0) (c .before .before .before .before .before .pre .1 .0) (c .before .before .before .before .before .pre .1 .1) (c .before .first-unordered .result) (c .before .first-unordered .ensures) (c .if1 .taken)
 
--- src/region_list.rt:41:9
 first-final-requires : tie.Need-first-final-requires
 first-final-requires c κs = (c .before .before .before .before .before .pre .0, (list-listed (now (c .before .before .before .before .before .args .table)) (now (c .before .before .before .before .before .args .list)) (c .before .before .before .before .before .args .head) (c .before .before .before .before .before .args .count) (c .before .before .before .before .before .pre .0) (c .before .before .before .before .before .pre .1 .0) (c .before .before .before .before .before .pre .1 .1), list-located (now (c .before .before .before .before .before .args .table)) (now (c .before .before .before .before .before .args .list)) (c .before .before .before .before .before .args .head) (c .before .before .before .before .before .args .count) (c .before .before .before .before .before .pre .0) (c .before .before .before .before .before .pre .1 .0) (c .before .before .before .before .before .pre .1 .1)))
 
--- src/region_list.rt:43:9
 returns-2 : tie.Need-returns-2
 returns-2 c = refused-15 (now (c .before .before .before .before .before .before .before .args .table)) (now (c .before .before .before .before .before .before .before .args .list)) (c .before .before .before .before .before .before .before .args .head) (c .before .before .before .before .before .before .before .args .count) (c .before .before .before .before .before .before .before .pre .0) (c .before .before .before .before .before .before .before .pre .1 .0) (c .before .before .before .before .before .before .before .pre .1 .1) (c .before .before .before .first-unordered .result) (c .before .before .before .first-unordered .ensures) (c .before .before .if1 .left) (c .before .first-final .result) (c .before .first-final .ensures) (c .if2 .taken)
 
--- src/region_list.rt:45:9
 initial-row-requires : tie.Need-initial-row-requires
 initial-row-requires c κs = search needs
 
--- src/region_list.rt:46:9
 is-listed-requires : tie.Need-is-listed-requires
 is-listed-requires c κs = (list-listed (now (c .before .before .before .before .before .before .before .before .args .table)) (now (c .before .before .before .before .before .before .before .before .args .list)) (c .before .before .before .before .before .before .before .before .args .head) (c .before .before .before .before .before .before .before .before .args .count) (c .before .before .before .before .before .before .before .before .pre .0) (c .before .before .before .before .before .before .before .before .pre .1 .0) (c .before .before .before .before .before .before .before .before .pre .1 .1), rows-ascend (now (c .before .before .before .before .before .before .before .before .args .table)) (now (c .before .before .before .before .before .before .before .before .args .list)) (c .before .before .before .before .before .before .before .before .args .head) (c .before .before .before .before .before .before .before .before .args .count) (c .before .before .before .before .before .before .before .before .pre .0) (c .before .before .before .before .before .before .before .before .pre .1 .0) (c .before .before .before .before .before .before .before .before .pre .1 .1) (c .before .before .before .before .first-unordered .result) (c .before .before .before .before .first-unordered .ensures) (c .before .before .before .if1 .left))
 
--- src/region_list.rt:47:9
 returns-3 : tie.Need-returns-3
 returns-3 c = refused-16 (now (c .before .before .before .before .before .before .before .before .before .before .args .table)) (now (c .before .before .before .before .before .before .before .before .before .before .args .list)) (c .before .before .before .before .before .before .before .before .before .before .args .head) (c .before .before .before .before .before .before .before .before .before .before .args .count) (c .before .before .before .before .before .before .before .before .before .before .pre .0) (c .before .before .before .before .before .before .before .before .before .before .pre .1 .0) (c .before .before .before .before .before .before .before .before .before .before .pre .1 .1) (c .before .before .before .before .before .before .first-unordered .result) (c .before .before .before .before .before .before .first-unordered .ensures) (c .before .before .before .before .before .if1 .left) (c .before .before .before .before .first-final .result) (c .before .before .before .before .first-final .ensures) (c .before .before .before .if2 .left) (c .before .before .initial-row .result) (c .before .before .initial-row .ensures) (c .before .is-listed .result) (c .before .is-listed .ensures) (not-true _ (c .if3 .taken))
 
--- src/region_list.rt:49:9
 lacks-wait-requires : tie.Need-lacks-wait-requires
 lacks-wait-requires c κs = (list-listed (now (c .before .before .before .before .before .before .before .before .before .before .args .table)) (now (c .before .before .before .before .before .before .before .before .before .before .args .list)) (c .before .before .before .before .before .before .before .before .before .before .args .head) (c .before .before .before .before .before .before .before .before .before .before .args .count) (c .before .before .before .before .before .before .before .before .before .before .pre .0) (c .before .before .before .before .before .before .before .before .before .before .pre .1 .0) (c .before .before .before .before .before .before .before .before .before .before .pre .1 .1), rows-ascend (now (c .before .before .before .before .before .before .before .before .before .before .args .table)) (now (c .before .before .before .before .before .before .before .before .before .before .args .list)) (c .before .before .before .before .before .before .before .before .before .before .args .head) (c .before .before .before .before .before .before .before .before .before .before .args .count) (c .before .before .before .before .before .before .before .before .before .before .pre .0) (c .before .before .before .before .before .before .before .before .before .before .pre .1 .0) (c .before .before .before .before .before .before .before .before .before .before .pre .1 .1) (c .before .before .before .before .before .before .first-unordered .result) (c .before .before .before .before .before .before .first-unordered .ensures) (c .before .before .before .before .before .if1 .left))
 
--- src/region_list.rt:51:9
 returns-4 : tie.Need-returns-4
 returns-4 c = refused-waiting (now (c .before .before .before .before .before .before .before .before .before .before .before .before .args .table)) (now (c .before .before .before .before .before .before .before .before .before .before .before .before .args .list)) (c .before .before .before .before .before .before .before .before .before .before .before .before .args .head) (c .before .before .before .before .before .before .before .before .before .before .before .before .args .count) (c .before .before .before .before .before .before .before .before .before .before .before .before .pre .0) (c .before .before .before .before .before .before .before .before .before .before .before .before .pre .1 .0) (c .before .before .before .before .before .before .before .before .before .before .before .before .pre .1 .1) (c .before .before .before .before .before .before .before .before .first-unordered .result) (c .before .before .before .before .before .before .before .before .first-unordered .ensures) (c .before .before .before .before .before .before .before .if1 .left) (c .before .before .before .before .before .before .first-final .result) (c .before .before .before .before .before .before .first-final .ensures) (c .before .before .before .before .before .if2 .left) (c .before .before .before .before .initial-row .result) (c .before .before .before .before .initial-row .ensures) (c .before .before .before .is-listed .result) (c .before .before .before .is-listed .ensures) (not-false _ (c .before .before .if3 .left)) _ (c .if4 .taken) (c .before .lacks-wait .ensures)
 
--- src/region_list.rt:53:9
 lacks-by-edges-requires : tie.Need-lacks-by-edges-requires
 lacks-by-edges-requires c κs = (c .before .before .before .before .before .before .before .before .before .before .before .before .pre .0, (list-listed (now (c .before .before .before .before .before .before .before .before .before .before .before .before .args .table)) (now (c .before .before .before .before .before .before .before .before .before .before .before .before .args .list)) (c .before .before .before .before .before .before .before .before .before .before .before .before .args .head) (c .before .before .before .before .before .before .before .before .before .before .before .before .args .count) (c .before .before .before .before .before .before .before .before .before .before .before .before .pre .0) (c .before .before .before .before .before .before .before .before .before .before .before .before .pre .1 .0) (c .before .before .before .before .before .before .before .before .before .before .before .before .pre .1 .1), rows-ascend (now (c .before .before .before .before .before .before .before .before .before .before .before .before .args .table)) (now (c .before .before .before .before .before .before .before .before .before .before .before .before .args .list)) (c .before .before .before .before .before .before .before .before .before .before .before .before .args .head) (c .before .before .before .before .before .before .before .before .before .before .before .before .args .count) (c .before .before .before .before .before .before .before .before .before .before .before .before .pre .0) (c .before .before .before .before .before .before .before .before .before .before .before .before .pre .1 .0) (c .before .before .before .before .before .before .before .before .before .before .before .before .pre .1 .1) (c .before .before .before .before .before .before .before .before .first-unordered .result) (c .before .before .before .before .before .before .before .before .first-unordered .ensures) (c .before .before .before .before .before .before .before .if1 .left)))
 
--- src/region_list.rt:55:9
 returns-5 : tie.Need-returns-5
 returns-5 c = refused-leading (now (c .before .before .before .before .before .before .before .before .before .before .before .before .before .before .args .table)) (now (c .before .before .before .before .before .before .before .before .before .before .before .before .before .before .args .list)) (c .before .before .before .before .before .before .before .before .before .before .before .before .before .before .args .head) (c .before .before .before .before .before .before .before .before .before .before .before .before .before .before .args .count) (c .before .before .before .before .before .before .before .before .before .before .before .before .before .before .pre .0) (c .before .before .before .before .before .before .before .before .before .before .before .before .before .before .pre .1 .0) (c .before .before .before .before .before .before .before .before .before .before .before .before .before .before .pre .1 .1) (c .before .before .before .before .before .before .before .before .before .before .first-unordered .result) (c .before .before .before .before .before .before .before .before .before .before .first-unordered .ensures) (c .before .before .before .before .before .before .before .before .before .if1 .left) (c .before .before .before .before .before .before .before .before .first-final .result) (c .before .before .before .before .before .before .before .before .first-final .ensures) (c .before .before .before .before .before .before .before .if2 .left) (c .before .before .before .before .before .before .initial-row .result) (c .before .before .before .before .before .before .initial-row .ensures) (c .before .before .before .before .before .is-listed .result) (c .before .before .before .before .before .is-listed .ensures) (not-false _ (c .before .before .before .before .if3 .left)) _ (c .if5 .taken) (c .before .lacks-by-edges .ensures)
 
--- src/region_list.rt:29:1
 returns-6 : tie.Need-returns-6
 returns-6 c = all-pass (now (c .before .before .before .before .before .before .before .before .before .before .before .before .before .before .args .table)) (now (c .before .before .before .before .before .before .before .before .before .before .before .before .before .before .args .list)) (c .before .before .before .before .before .before .before .before .before .before .before .before .before .before .args .head) (c .before .before .before .before .before .before .before .before .before .before .before .before .before .before .args .count) (c .before .before .before .before .before .before .before .before .before .before .before .before .before .before .pre .0) (c .before .before .before .before .before .before .before .before .before .before .before .before .before .before .pre .1 .0) (c .before .before .before .before .before .before .before .before .before .before .before .before .before .before .pre .1 .1) (c .before .before .before .before .before .before .before .before .before .before .first-unordered .result) (c .before .before .before .before .before .before .before .before .before .before .first-unordered .ensures) (c .before .before .before .before .before .before .before .before .before .if1 .left) (c .before .before .before .before .before .before .before .before .first-final .result) (c .before .before .before .before .before .before .before .before .first-final .ensures) (c .before .before .before .before .before .before .before .if2 .left) (c .before .before .before .before .before .before .initial-row .result) (c .before .before .before .before .before .before .initial-row .ensures) (c .before .before .before .before .before .is-listed .result) (c .before .before .before .before .before .is-listed .ensures) (not-false _ (c .before .before .before .before .if3 .left)) (c .before .before .before .lacks-wait .result) (c .before .lacks-by-edges .result) (c .before .before .if4 .left) (c .if5 .left) (c .before .before .before .lacks-wait .ensures) (c .before .lacks-by-edges .ensures)
 

@@ -20,51 +20,39 @@ Inv-loop list clocks count n i₀ i = NextTo (wait-rows (bounds-of clocks)) (clo
 abbrev μ-loop : tie.MeasureT-loop
 μ-loop list clocks count n i₀ i = count - i
 
--- src/waiting.rt:37:13
 cast-n : tie.Need-cast-n Inv-loop μ-loop
 cast-n c = search needs
 
--- src/waiting.rt:39:5
 loop-holds : tie.Need-loop-holds Inv-loop μ-loop
 loop-holds c = next-begins _ _ _ _
 
--- src/waiting.rt:40:13
 row-at-requires : tie.Need-row-at-requires Inv-loop μ-loop
 row-at-requires c κs = let p = c .before .before .before .before .pre .0 in let v = c .before .loop .inv in let l = c .loop-test .taken in (p .few .few, row-room _ _ _ _ (p .room) (omega arith))
 
--- src/waiting.rt:41:52
 add-waits-inside : tie.Need-add-waits-inside Inv-loop μ-loop
 add-waits-inside c = search needs
 
--- src/waiting.rt:41:13
 waits-inside-requires : tie.Need-waits-inside-requires Inv-loop μ-loop
 waits-inside-requires c κs = (c .before .before .before .before .before .pre .0, (c .before .before .before .before .before .pre .1, let p = c .before .before .before .before .before .pre .0 in rw (listed-again _ _ _ _ (c .row-at .ensures)) (p .are-rows _ (c .before .loop-test .taken))))
 
--- src/waiting.rt:42:21
 add-result : tie.Need-add-result Inv-loop μ-loop
 add-result c = search needs
 
--- src/waiting.rt:42:20
 cast-result : tie.Need-cast-result Inv-loop μ-loop
 cast-result c = search needs
 
--- src/waiting.rt:42:13
 returns : tie.Need-returns Inv-loop μ-loop
 returns c = next-fails (wait-rows (bounds-of (c .before .before .before .before .before .before .before .args .clocks))) (c .before .before .before .before .before .before .before .args .clocks .count) (now (c .before .before .before .before .before .before .before .args .list)) (c .before .before .before .before .before .before .before .args .count) _ (c .before .before .before .loop-test .taken) (ap (λ (r : Row). every (has (listed-rows (c .before .before .before .before .before .before .before .args .clocks .count) (now (c .before .before .before .before .before .before .before .args .list)) (c .before .before .before .before .before .before .before .args .count))) (wait-rows (bounds-of (c .before .before .before .before .before .before .before .args .clocks)) r)) (sym (listed-again (c .before .before .before .before .before .before .before .args .clocks .count) (now (c .before .before .before .before .before .before .before .args .list)) _ _ (c .before .before .row-at .ensures))) ∙ sym (c .before .waits-inside .ensures) ∙ not-true _ (c .if1 .taken))
 
--- src/waiting.rt:44:9
 add-i : tie.Need-add-i Inv-loop μ-loop
 add-i c = search needs
 
--- src/waiting.rt:39:5
 loop-less : tie.Need-loop-less Inv-loop μ-loop
 loop-less c = search needs
 
--- src/waiting.rt:39:5
 loop-again : tie.Need-loop-again Inv-loop μ-loop
 loop-again c = next-on (wait-rows (bounds-of (c .before .before .before .before .before .before .before .args .clocks))) (c .before .before .before .before .before .before .before .args .clocks .count) (now (c .before .before .before .before .before .before .before .args .list)) (c .before .before .before .before .before .before .before .args .count) _ (c .before .before .before .before .loop .inv) (c .before .before .before .loop-test .taken) (ap (λ (r : Row). every (has (listed-rows (c .before .before .before .before .before .before .before .args .clocks .count) (now (c .before .before .before .before .before .before .before .args .list)) (c .before .before .before .before .before .before .before .args .count))) (wait-rows (bounds-of (c .before .before .before .before .before .before .before .args .clocks)) r)) (sym (listed-again (c .before .before .before .before .before .before .before .args .clocks .count) (now (c .before .before .before .before .before .before .before .args .list)) _ _ (c .before .before .row-at .ensures))) ∙ sym (c .before .waits-inside .ensures) ∙ not-false _ (c .if1 .left))
 
--- src/waiting.rt:32:1
 returns-2 : tie.Need-returns-2 Inv-loop μ-loop
 returns-2 c = next-all _ _ _ _ _ (c .before .loop .inv) (c .loop-test .left)
 

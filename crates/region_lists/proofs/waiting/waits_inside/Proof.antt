@@ -6,19 +6,15 @@ use borrow.Author.Needs.{needs}
 use Rattle.region_lists.proofs.waiting.waits_inside.Statement.{statement}
 use Rattle.region_lists.proofs.waiting.waits_inside.Tie as tie
 
--- src/waiting.rt:22:9
 wait-requires : tie.Need-wait-requires
 wait-requires c κs = (c .before .pre .0 .few, c .before .pre .1 .1)
 
--- src/waiting.rt:25:13
 find-requires : tie.Need-find-requires
 find-requires c κs = search needs
 
--- src/waiting.rt:26:9
 returns : tie.Need-returns
 returns c = wait-found _ _ (c .before .before .before .before .before .pre .0 .sized) (has (listed-rows (c .before .before .before .before .before .args .clocks .count) (now (c .before .before .before .before .before .args .list)) (c .before .before .before .before .before .args .count))) _ (c .before .before .before .before .before .pre .1 .1) _ (c .before .before .before .wait .ensures) (c .before .before .if1 .taken) _ (c .find .ensures)
 
--- src/waiting.rt:16:1
 returns-2 : tie.Need-returns-2
 returns-2 c = wait-missing _ _ (c .before .before .before .pre .0 .sized) (has (listed-rows (c .before .before .before .args .clocks .count) (now (c .before .before .before .args .list)) (c .before .before .before .args .count))) _ (c .before .before .before .pre .1 .1) _ (c .before .wait .ensures) (c .if1 .left)
 

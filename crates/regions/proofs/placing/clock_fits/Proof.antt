@@ -4,15 +4,12 @@ use borrow.Author.Needs.{needs}
 use Rattle.regions.proofs.placing.clock_fits.Statement.{statement}
 use Rattle.regions.proofs.placing.clock_fits.Tie as tie
 
--- src/placing.rt:59:9
 returns : tie.Need-returns
 returns c = rw (ne-eqb _ _ (c .if1 .taken))
 
--- src/placing.rt:61:5
 fits-at-requires : tie.Need-fits-at-requires
 fits-at-requires c κs = search needs
 
--- src/placing.rt:55:1
 returns-2 : tie.Need-returns-2
 returns-2 c = c .fits-at .ensures ∙ rw (eq-eqb _ _ (c .before .if1 .left))
 

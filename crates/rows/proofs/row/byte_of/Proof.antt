@@ -4,19 +4,15 @@ use borrow.Author.Needs.{needs}
 use Rattle.rows.proofs.row.byte_of.Statement.{statement}
 use Rattle.rows.proofs.row.byte_of.Tie as tie
 
--- src/row.rt:39:22
 add-result : tie.Need-add-result
 add-result c = search needs
 
--- src/row.rt:39:16
 shared-slice-read-result : tie.Need-shared-slice-read-result
 shared-slice-read-result c = search needs
 
--- src/row.rt:39:9
 returns : tie.Need-returns
 returns c = rw (lt-ltb _ _ (c .before .if1 .taken)) refl
 
--- src/row.rt:34:1
 returns-2 : tie.Need-returns-2
 returns-2 c = rw (le-ltb _ _ (c .if1 .left)) refl
 

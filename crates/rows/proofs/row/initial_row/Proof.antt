@@ -2,7 +2,6 @@ use Rattle.rows.proofs.Laws.RowRecords.{initial-is}
 use Rattle.rows.proofs.row.initial_row.Statement.{statement}
 use Rattle.rows.proofs.row.initial_row.Tie as tie
 
--- src/row.rt:74:1
 returns : tie.Need-returns
 returns c = λ file D. initial-is file (c .args .head) D
 

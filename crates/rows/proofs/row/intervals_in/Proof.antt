@@ -4,39 +4,30 @@ use borrow.Author.Needs.{needs}
 use Rattle.rows.proofs.row.intervals_in.Statement.{statement}
 use Rattle.rows.proofs.row.intervals_in.Tie as tie
 
--- src/row.rt:49:22
 byte-of-requires : tie.Need-byte-of-requires
 byte-of-requires c κs = search needs
 
--- src/row.rt:49:9
 wide-requires : tie.Need-wide-requires
 wide-requires c κs = search needs
 
--- src/row.rt:50:23
 byte-of-requires-2 : tie.Need-byte-of-requires-2
 byte-of-requires-2 c κs = search needs
 
--- src/row.rt:50:9
 wide-requires-2 : tie.Need-wide-requires-2
 wide-requires-2 c κs = search needs
 
--- src/row.rt:51:22
 byte-of-requires-3 : tie.Need-byte-of-requires-3
 byte-of-requires-3 c κs = search needs
 
--- src/row.rt:51:9
 wide-requires-3 : tie.Need-wide-requires-3
 wide-requires-3 c κs = search needs
 
--- src/row.rt:52:23
 byte-of-requires-4 : tie.Need-byte-of-requires-4
 byte-of-requires-4 c κs = search needs
 
--- src/row.rt:52:9
 wide-requires-4 : tie.Need-wide-requires-4
 wide-requires-4 c κs = search needs
 
--- src/row.rt:45:1
 returns : tie.Need-returns
 returns c = four-filled _ _ (c .before .before .before .before .before .before .before .before .before .pre .0) _ _ _ _ (c .before .before .before .before .before .before .wide .ensures ∙ c .before .before .before .before .before .before .before .byte-of .ensures) (c .before .before .before .before .wide2 .ensures ∙ c .before .before .before .before .before .byte-of2 .ensures) (c .before .before .wide3 .ensures ∙ c .before .before .before .byte-of3 .ensures) (c .wide4 .ensures ∙ c .before .byte-of4 .ensures)
 

@@ -3,23 +3,18 @@ use borrow.Author.Needs.{needs}
 use Rattle.rows.proofs.row.ranks_in.Statement.{statement}
 use Rattle.rows.proofs.row.ranks_in.Tie as tie
 
--- src/row.rt:61:9
 byte-of-requires : tie.Need-byte-of-requires
 byte-of-requires c κs = search needs
 
--- src/row.rt:62:9
 byte-of-requires-2 : tie.Need-byte-of-requires-2
 byte-of-requires-2 c κs = search needs
 
--- src/row.rt:63:9
 byte-of-requires-3 : tie.Need-byte-of-requires-3
 byte-of-requires-3 c κs = search needs
 
--- src/row.rt:64:9
 byte-of-requires-4 : tie.Need-byte-of-requires-4
 byte-of-requires-4 c κs = search needs
 
--- src/row.rt:57:1
 returns : tie.Need-returns
 returns c = four-filled _ _ (c .before .before .before .before .before .pre .0) _ _ _ _ (c .before .before .before .byte-of .ensures) (c .before .before .byte-of2 .ensures) (c .before .byte-of3 .ensures) (c .byte-of4 .ensures)
 

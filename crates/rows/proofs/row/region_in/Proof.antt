@@ -1,24 +1,21 @@
+use native.Mathlib.Omega.{arith}
 use borrow.Author.Needs.{needs}
+use Rattle.calls.proofs.Laws.Rows.{row-width-is}
 use Rattle.rows.proofs.row.region_in.Statement.{statement}
 use Rattle.rows.proofs.row.region_in.Tie as tie
 
--- src/row.rt:63:9
 intervals-in-requires : tie.Need-intervals-in-requires
-intervals-in-requires c κs = search needs
+intervals-in-requires c κs = let w = row-width-is (c .before .args .n) in search needs
 
--- src/row.rt:64:33
 add-ranks-in : tie.Need-add-ranks-in
 add-ranks-in c = search needs
 
--- src/row.rt:64:9
 ranks-in-requires : tie.Need-ranks-in-requires
-ranks-in-requires c κs = search needs
+ranks-in-requires c κs = let w = row-width-is (c .before .before .args .n) in search needs
 
--- src/row.rt:66:19
 shared-slice-read-t7 : tie.Need-shared-slice-read-t7
-shared-slice-read-t7 c = search needs
+shared-slice-read-t7 c = let w = row-width-is (c .before .before .before .before .args .n) in search needs
 
--- src/row.rt:59:1
 returns : tie.Need-returns
 returns c = rw (c .before .before .intervals-in .ensures, c .before .ranks-in .ensures)
 

@@ -5,75 +5,57 @@ use borrow.Author.Needs.{needs}
 use Rattle.table_records.proofs.record.four_bytes.Statement.{statement}
 use Rattle.table_records.proofs.record.four_bytes.Tie as tie
 
--- src/record.rt:67:10
 shared-slice-read-wide : tie.Need-shared-slice-read-wide
 shared-slice-read-wide c = search needs
 
--- src/record.rt:67:5
 wide-requires : tie.Need-wide-requires
 wide-requires c κs = search needs
 
--- src/record.rt:67:5
 mul-result : tie.Need-mul-result
 mul-result c = search needs
 
--- src/record.rt:67:45
 add-wide : tie.Need-add-wide
 add-wide c = search needs
 
--- src/record.rt:67:39
 shared-slice-read-wide-2 : tie.Need-shared-slice-read-wide-2
 shared-slice-read-wide-2 c = search needs
 
--- src/record.rt:67:34
 wide-requires-2 : tie.Need-wide-requires-2
 wide-requires-2 c κs = search needs
 
--- src/record.rt:67:34
 mul-result-2 : tie.Need-mul-result-2
 mul-result-2 c = search needs
 
--- src/record.rt:67:5
 add-result : tie.Need-add-result
 add-result c = search needs
 
--- src/record.rt:67:75
 add-wide-2 : tie.Need-add-wide-2
 add-wide-2 c = search needs
 
--- src/record.rt:67:69
 shared-slice-read-wide-3 : tie.Need-shared-slice-read-wide-3
 shared-slice-read-wide-3 c = search needs
 
--- src/record.rt:67:64
 wide-requires-3 : tie.Need-wide-requires-3
 wide-requires-3 c κs = search needs
 
--- src/record.rt:67:64
 mul-result-3 : tie.Need-mul-result-3
 mul-result-3 c = search needs
 
--- src/record.rt:67:5
 add-result-2 : tie.Need-add-result-2
 add-result-2 c = search needs
 
--- src/record.rt:67:103
 add-wide-3 : tie.Need-add-wide-3
 add-wide-3 c = search needs
 
--- src/record.rt:67:97
 shared-slice-read-wide-4 : tie.Need-shared-slice-read-wide-4
 shared-slice-read-wide-4 c = search needs
 
--- src/record.rt:67:92
 wide-requires-4 : tie.Need-wide-requires-4
 wide-requires-4 c κs = search needs
 
--- src/record.rt:67:5
 add-result-3 : tie.Need-add-result-3
 add-result-3 c = search needs
 
--- src/record.rt:63:1
 returns : tie.Need-returns
 returns c = let a = c .before .before .before .before .before .before .before .before .before .args in
     let e : a .at + 2 + 1 ≡ a .at + 3 = omega arith in

@@ -9,16 +9,13 @@ use borrow.Author.Needs.{needs}
 use Rattle.table_records.proofs.record.is_there.Statement.{statement}
 use Rattle.table_records.proofs.record.is_there.Tie as tie
 
--- src/record.rt:14:21
 sub-result : tie.Need-sub-result
 sub-result c = search needs
 
--- src/record.rt:14:9
 returns : tie.Need-returns
 returns c = let a = c .before .args in
     leb-same (a .n) (length (now (a .file)) - a .at) (a .at + a .n) (length (now (a .file))) (λ h. omega arith) (λ h. omega arith)
 
--- src/record.rt:10:1
 returns-2 : tie.Need-returns-2
 returns-2 c = let a = c .before .args in sym (lt-leb (a .at + a .n) (length (now (a .file))) (omega arith))
 

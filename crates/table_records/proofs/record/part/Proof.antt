@@ -10,38 +10,30 @@ use borrow.Author.Needs.{needs}
 use Rattle.table_records.proofs.record.part.Statement.{statement}
 use Rattle.table_records.proofs.record.part.Tie as tie
 
--- src/record.rt:23:8
 is-there-requires : tie.Need-is-there-requires
 is-there-requires c κs = search needs
 
--- src/record.rt:24:26
 add-result : tie.Need-add-result
 add-result c = let a = c .before .before .before .args in
     omega (arith, leb-true (a .at + a .n) (length (now (a .file))) (sym (c .before .is-there .ensures) ∙ c .if1 .taken))
 
--- src/record.rt:24:16
 sub-result : tie.Need-sub-result
 sub-result c = search needs
 
--- src/record.rt:24:16
 part-result-start : tie.Need-part-result-start
 part-result-start c = search needs
 
--- src/record.rt:24:16
 part-result-end : tie.Need-part-result-end
 part-result-end c = let a = c .before .before .before .args in
     omega (arith, leb-true (a .at + a .n) (length (now (a .file))) (sym (c .before .is-there .ensures) ∙ c .if1 .taken))
 
--- src/record.rt:24:9
 returns : tie.Need-returns
 unfolding part-at
 returns c = simp (← c .before .before .is-there .ensures, c .before .if1 .taken, span)
 
--- src/record.rt:26:5
 slice-aggregate-result : tie.Need-slice-aggregate-result
 slice-aggregate-result c = search needs
 
--- src/record.rt:20:1
 returns-2 : tie.Need-returns-2
 unfolding part-at
 returns-2 c = simp (← c .before .before .is-there .ensures, c .before .if1 .left)

@@ -4,31 +4,24 @@ use borrow.Author.Needs.{needs}
 use Rattle.edge_walk.proofs.choice.Search.is_stuck.Statement.{statement}
 use Rattle.edge_walk.proofs.choice.Search.is_stuck.Tie as tie
 
--- src/choice.rt:103:17
 cast-n : tie.Need-cast-n
 cast-n c = search needs
 
--- src/choice.rt:104:17
 add-if1 : tie.Need-add-if1
 add-if1 c = search needs
 
--- src/choice.rt:105:13
 returns : tie.Need-returns
 returns c = let a = c .before .before .args in not-yet (a .self) (a .part) (a .i) (c .if1 .taken)
 
--- src/choice.rt:108:33
 sub-are-placed : tie.Need-sub-are-placed
 sub-are-placed c = search needs
 
--- src/choice.rt:108:33
 sub-are-placed-2 : tie.Need-sub-are-placed-2
 sub-are-placed-2 c = search needs
 
--- src/choice.rt:108:10
 are-placed-requires : tie.Need-are-placed-requires
 are-placed-requires c κs = search needs
 
--- src/choice.rt:98:5
 returns-2 : tie.Need-returns-2
 returns-2 c = let a = c .before .before .before .before .args in stuck-is (a .self) (a .part) (a .i) _ (omega arith) (c .are-placed .ensures)
 

@@ -6,43 +6,33 @@ use borrow.Author.Needs.{needs}
 use Rattle.edge_walk.proofs.choice.Search.last_choice.Statement.{statement}
 use Rattle.edge_walk.proofs.choice.Search.last_choice.Tie as tie
 
--- src/choice.rt:67:17
 cast-n : tie.Need-cast-n
 cast-n c = search needs
 
--- src/choice.rt:70:36
 sub-asked : tie.Need-sub-asked
 sub-asked c = search needs
 
--- src/choice.rt:70:25
 mul-asked : tie.Need-mul-asked
 mul-asked c = search needs
 
--- src/choice.rt:70:25
 element-copy-out-asked : tie.Need-element-copy-out-asked
 element-copy-out-asked c = search needs
 
--- src/choice.rt:71:13
 returns : tie.Need-returns
 returns c = let a = c .before .before .before .before .args in let four : length (a .self .clocks .bounds) ≡ 4 = search needs in let four′ : length (a .part .intervals) ≡ 4 = search needs in interval-ends (a .self) (c .before .before .before .before .pre .0) four (a .part) four′ (a .i) (omega arith) (omega arith)
 
--- src/choice.rt:73:30
 sub-last-rank : tie.Need-sub-last-rank
 sub-last-rank c = search needs
 
--- src/choice.rt:73:30
 sub-last-rank-2 : tie.Need-sub-last-rank-2
 sub-last-rank-2 c = search needs
 
--- src/choice.rt:73:9
 last-rank-requires : tie.Need-last-rank-requires
 last-rank-requires c κs = search needs
 
--- src/choice.rt:73:9
 cast-result : tie.Need-cast-result
 cast-result c = search needs
 
--- src/choice.rt:62:5
 returns-2 : tie.Need-returns-2
 returns-2 c = let a = c .before .before .before .args in let four : length (a .self .clocks .bounds) ≡ 4 = search needs in let four′ : length (a .part .intervals) ≡ 4 = search needs in rank-ends (a .self) (c .before .before .before .pre .0) four (a .part) four′ (a .i) (omega arith) (omega arith) _ (c .last-rank .ensures)
 

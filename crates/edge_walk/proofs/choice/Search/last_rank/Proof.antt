@@ -2,35 +2,27 @@ use borrow.Author.Needs.{needs}
 use Rattle.edge_walk.proofs.choice.Search.last_rank.Statement.{statement}
 use Rattle.edge_walk.proofs.choice.Search.last_rank.Tie as tie
 
--- src/choice.rt:55:20
 mul-is-open : tie.Need-mul-is-open
 mul-is-open c = search needs
 
--- src/choice.rt:55:20
 element-copy-out-is-open : tie.Need-element-copy-out-is-open
 element-copy-out-is-open c = search needs
 
--- src/choice.rt:55:38
 mul-is-open-2 : tie.Need-mul-is-open-2
 mul-is-open-2 c = search needs
 
--- src/choice.rt:55:38
 element-copy-out-is-open-2 : tie.Need-element-copy-out-is-open-2
 element-copy-out-is-open-2 c = search needs
 
--- src/choice.rt:55:12
 is-open-requires : tie.Need-is-open-requires
 is-open-requires c κs = c .before .before .before .pre .0 .few .low _
 
--- src/choice.rt:56:13
 rank-room-requires : tie.Need-rank-room-requires
 rank-room-requires c κs = search needs
 
--- src/choice.rt:56:13
 returns : tie.Need-returns
 returns c = rw (← c .before .before .is-open .ensures, c .before .if1 .taken) (c .rank-room .ensures)
 
--- src/choice.rt:49:5
 returns-2 : tie.Need-returns-2
 returns-2 c = rw (← c .before .is-open .ensures, c .if1 .left)
 

@@ -7,77 +7,60 @@ use borrow.Author.Needs.{needs}
 use Rattle.edge_walk.proofs.choice.Search.next_choice.Statement.{statement}
 use Rattle.edge_walk.proofs.choice.Search.next_choice.Tie as tie
 
--- src/choice.rt:83:17
 cast-n : tie.Need-cast-n
 cast-n c = search needs
 
--- src/choice.rt:86:36
 sub-asked : tie.Need-sub-asked
 sub-asked c = search needs
 
--- src/choice.rt:86:25
 mul-asked : tie.Need-mul-asked
 mul-asked c = search needs
 
--- src/choice.rt:86:25
 element-copy-out-asked : tie.Need-element-copy-out-asked
 element-copy-out-asked c = search needs
 
--- src/choice.rt:87:13
 next-permitted-requires : tie.Need-next-permitted-requires
 next-permitted-requires c κs = let a = c .before .before .before .before .args in
     let four : length (a .self .clocks .bounds) ≡ 4 = search needs in
     let four′ : length (a .t2 .intervals) ≡ 4 = search needs in
     omega (arith, top-low (a .self) (c .before .before .before .before .pre .0) four (a .t2) four′ (a .i) (omega arith) (omega arith))
 
--- src/choice.rt:87:13
 returns : tie.Need-returns
 returns c = let a = c .before .before .before .before .before .args in
     let four : length (a .self .clocks .bounds) ≡ 4 = search needs in
     let four′ : length (a .t2 .intervals) ≡ 4 = search needs in
     interval-skips (a .self) (c .before .before .before .before .before .pre .0) four (a .t2) four′ (a .i) (omega arith) (omega arith) _ _ (c .next-permitted .ensures)
 
--- src/choice.rt:90:17
 sub-z : tie.Need-sub-z
 sub-z c = search needs
 
--- src/choice.rt:90:17
 sub-z-2 : tie.Need-sub-z-2
 sub-z-2 c = search needs
 
--- src/choice.rt:91:21
 mul-is-open : tie.Need-mul-is-open
 mul-is-open c = search needs
 
--- src/choice.rt:91:21
 element-copy-out-is-open : tie.Need-element-copy-out-is-open
 element-copy-out-is-open c = search needs
 
--- src/choice.rt:91:39
 mul-is-open-2 : tie.Need-mul-is-open-2
 mul-is-open-2 c = search needs
 
--- src/choice.rt:91:39
 element-copy-out-is-open-2 : tie.Need-element-copy-out-is-open-2
 element-copy-out-is-open-2 c = search needs
 
--- src/choice.rt:91:13
 is-open-requires : tie.Need-is-open-requires
 is-open-requires c κs = c .before .before .before .before .before .pre .0 .few .low _
 
--- src/choice.rt:92:13
 returns-2 : tie.Need-returns-2
 returns-2 c = search needs
 
--- src/choice.rt:94:36
 least-rank-requires : tie.Need-least-rank-requires
 least-rank-requires c κs = search needs
 
--- src/choice.rt:94:9
 next-rank-requires : tie.Need-next-rank-requires
 next-rank-requires c κs = search needs
 
--- src/choice.rt:78:5
 returns-3 : tie.Need-returns-3
 returns-3 c = let a = c .before .before .before .before .before .before .before .before .before .args in
     let four : length (a .self .clocks .bounds) ≡ 4 = search needs in

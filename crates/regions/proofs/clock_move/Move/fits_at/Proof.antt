@@ -4,59 +4,45 @@ use borrow.Author.Needs.{needs}
 use Rattle.regions.proofs.clock_move.Move.fits_at.Statement.{statement}
 use Rattle.regions.proofs.clock_move.Move.fits_at.Tie as tie
 
--- src/clock_move.rt:113:12
 is-free-requires : tie.Need-is-free-requires
 is-free-requires c κs = search needs
 
--- src/clock_move.rt:114:13
 some-answer-requires : tie.Need-some-answer-requires
 some-answer-requires c κs = search needs
 
--- src/clock_move.rt:114:13
 returns : tie.Need-returns
 returns c = c .some-answer .ensures ∙ fits-free _ _ _ (sym (c .before .before .is-free .ensures) ∙ c .before .if1 .taken)
 
--- src/clock_move.rt:116:12
 is-by-parts-requires : tie.Need-is-by-parts-requires
 is-by-parts-requires c κs = search needs
 
--- src/clock_move.rt:117:55
 add-holds : tie.Need-add-holds
 add-holds c = search needs
 
--- src/clock_move.rt:117:83
 cast-holds : tie.Need-cast-holds
 cast-holds c = search needs
 
--- src/clock_move.rt:117:78
 mul-holds : tie.Need-mul-holds
 mul-holds c = search needs
 
--- src/clock_move.rt:117:13
 holds-requires : tie.Need-holds-requires
 holds-requires c κs = search needs
 
--- src/clock_move.rt:117:13
 returns-2 : tie.Need-returns-2
 returns-2 c = c .holds .ensures ∙ fits-parts _ _ _ (sym (c .before .before .before .before .before .is-free .ensures) ∙ c .before .before .before .before .if1 .left) (sym (c .before .before .before .is-by-parts .ensures) ∙ c .before .before .if2 .taken)
 
--- src/clock_move.rt:119:65
 cast-holds-2 : tie.Need-cast-holds-2
 cast-holds-2 c = search needs
 
--- src/clock_move.rt:119:44
 add-holds-2 : tie.Need-add-holds-2
 add-holds-2 c = search needs
 
--- src/clock_move.rt:119:85
 cast-holds-3 : tie.Need-cast-holds-3
 cast-holds-3 c = search needs
 
--- src/clock_move.rt:119:9
 holds-requires-2 : tie.Need-holds-requires-2
 holds-requires-2 c κs = search needs
 
--- src/clock_move.rt:110:5
 returns-3 : tie.Need-returns-3
 returns-3 c = c .holds2 .ensures ∙ fits-fixed _ _ _ (sym (c .before .before .before .before .before .before .is-free .ensures) ∙ c .before .before .before .before .before .if1 .left) (sym (c .before .before .before .before .is-by-parts .ensures) ∙ c .before .before .before .if2 .left)
 

@@ -14,31 +14,24 @@ Inv-loop self from interval₀ interval = least (permitsb self) (self .top + 1 -
 abbrev μ-loop : tie.MeasureT-loop
 μ-loop self from interval₀ interval = self .top + 1 - interval
 
--- src/clock_move.rt:165:9
 loop-holds : tie.Need-loop-holds Inv-loop μ-loop
 loop-holds c = refl
 
--- src/clock_move.rt:166:16
 permits-requires : tie.Need-permits-requires Inv-loop μ-loop
 permits-requires c κs = search needs
 
--- src/clock_move.rt:167:17
 returns : tie.Need-returns Inv-loop μ-loop
 returns c = sym (c .before .before .before .before .loop .inv ∙ least-here _ _ _ (omega arith) (sym (c .before .permits .ensures) ∙ c .if2 .taken))
 
--- src/clock_move.rt:169:13
 next-stretch-requires : tie.Need-next-stretch-requires Inv-loop μ-loop
 next-stretch-requires c κs = search needs
 
--- src/clock_move.rt:165:9
 loop-less : tie.Need-loop-less Inv-loop μ-loop
 loop-less c = search needs
 
--- src/clock_move.rt:165:9
 loop-again : tie.Need-loop-again Inv-loop μ-loop
 loop-again c = c .before .before .before .before .before .loop .inv ∙ least-leap _ _ _ _ (omega arith) (omega arith) (λ j l h. c .next-stretch .ensures .alike j l h ∙ sym (c .before .before .permits .ensures) ∙ c .before .if2 .left)
 
--- src/clock_move.rt:160:5
 returns-2 : tie.Need-returns-2 Inv-loop μ-loop
 returns-2 c = sym (c .before .before .loop .inv ∙ least-none _ _ _ (omega arith))
 

@@ -4,67 +4,51 @@ use borrow.Author.Needs.{needs}
 use Rattle.regions.proofs.clock_move.Move.next_stretch.Statement.{statement}
 use Rattle.regions.proofs.clock_move.Move.next_stretch.Tie as tie
 
--- src/clock_move.rt:142:20
 add-result : tie.Need-add-result
 add-result c = search needs
 
--- src/clock_move.rt:142:13
 returns : tie.Need-returns
 returns c = stretch-one _ _ (omega arith)
 
--- src/clock_move.rt:144:42
 cast-moved : tie.Need-cast-moved
 cast-moved c = search needs
 
--- src/clock_move.rt:144:21
 add-moved : tie.Need-add-moved
 add-moved c = search needs
 
--- src/clock_move.rt:145:21
 cast-if2 : tie.Need-cast-if2
 cast-if2 c = search needs
 
--- src/clock_move.rt:146:20
 add-result-2 : tie.Need-add-result-2
 add-result-2 c = search needs
 
--- src/clock_move.rt:146:13
 returns-2 : tie.Need-returns-2
 returns-2 c = stretch-one _ _ (omega arith)
 
--- src/clock_move.rt:148:13
 cast-if3 : tie.Need-cast-if3
 cast-if3 c = search needs
 
--- src/clock_move.rt:149:13
 returns-3 : tie.Need-returns-3
 returns-3 c = stretch-above _ _ (omega arith) (omega arith) (omega arith)
 
--- src/clock_move.rt:151:19
 cast-at : tie.Need-cast-at
 cast-at c = search needs
 
--- src/clock_move.rt:151:45
 cast-at-2 : tie.Need-cast-at-2
 cast-at-2 c = search needs
 
--- src/clock_move.rt:151:18
 sub-at : tie.Need-sub-at
 sub-at c = search needs
 
--- src/clock_move.rt:152:18
 cast-if4 : tie.Need-cast-if4
 cast-if4 c = search needs
 
--- src/clock_move.rt:153:20
 cast-result : tie.Need-cast-result
 cast-result c = search needs
 
--- src/clock_move.rt:153:13
 returns-4 : tie.Need-returns-4
 returns-4 c = stretch-below _ _ (omega arith) _ (omega arith) (omega arith) (omega arith)
 
--- src/clock_move.rt:137:5
 returns-5 : tie.Need-returns-5
 returns-5 c = stretch-below _ _ (omega arith) _ (omega arith) (omega arith) (omega arith)
 

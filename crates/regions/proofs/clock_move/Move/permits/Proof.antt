@@ -4,47 +4,36 @@ use borrow.Author.Needs.{needs}
 use Rattle.regions.proofs.clock_move.Move.permits.Statement.{statement}
 use Rattle.regions.proofs.clock_move.Move.permits.Tie as tie
 
--- src/clock_move.rt:126:12
 is-free-requires : tie.Need-is-free-requires
 is-free-requires c κs = search needs
 
--- src/clock_move.rt:127:13
 some-answer-requires : tie.Need-some-answer-requires
 some-answer-requires c κs = search needs
 
--- src/clock_move.rt:127:13
 returns : tie.Need-returns
 returns c = c .some-answer .ensures ∙ permits-free _ _ (sym (c .before .before .is-free .ensures) ∙ c .before .if1 .taken)
 
--- src/clock_move.rt:129:12
 is-by-parts-requires : tie.Need-is-by-parts-requires
 is-by-parts-requires c κs = search needs
 
--- src/clock_move.rt:130:13
 some-answer-requires-2 : tie.Need-some-answer-requires-2
 some-answer-requires-2 c κs = search needs
 
--- src/clock_move.rt:130:13
 returns-2 : tie.Need-returns-2
 returns-2 c = c .some-answer2 .ensures ∙ permits-parts _ _ (sym (c .before .before .before .before .is-free .ensures) ∙ c .before .before .before .if1 .left) (sym (c .before .before .is-by-parts .ensures) ∙ c .before .if2 .taken)
 
--- src/clock_move.rt:132:65
 cast-holds : tie.Need-cast-holds
 cast-holds c = search needs
 
--- src/clock_move.rt:132:44
 add-holds : tie.Need-add-holds
 add-holds c = search needs
 
--- src/clock_move.rt:132:85
 cast-holds-2 : tie.Need-cast-holds-2
 cast-holds-2 c = search needs
 
--- src/clock_move.rt:132:9
 holds-requires : tie.Need-holds-requires
 holds-requires c κs = search needs
 
--- src/clock_move.rt:123:5
 returns-3 : tie.Need-returns-3
 returns-3 c = c .holds .ensures ∙ permits-fixed _ _ (sym (c .before .before .before .before .before .before .is-free .ensures) ∙ c .before .before .before .before .before .if1 .left) (sym (c .before .before .before .before .is-by-parts .ensures) ∙ c .before .before .before .if2 .left)
 

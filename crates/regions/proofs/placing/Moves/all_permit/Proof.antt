@@ -16,42 +16,33 @@ Inv-loop count self z₀ z = (z ≤ count) × (allb z (some-permitted (self .eac
 abbrev μ-loop : tie.MeasureT-loop
 μ-loop count self z₀ z = count - z
 
--- src/placing.rt:75:9
 loop-holds : tie.Need-loop-holds Inv-loop μ-loop
 unfolding allb
 loop-holds c = (omega arith, refl)
 
--- src/placing.rt:76:25
 mul-asked : tie.Need-mul-asked Inv-loop μ-loop
 mul-asked c = search needs
 
--- src/placing.rt:76:25
 element-copy-out-asked : tie.Need-element-copy-out-asked Inv-loop μ-loop
 element-copy-out-asked c = search needs
 
--- src/placing.rt:77:28
 next-permitted-requires : tie.Need-next-permitted-requires Inv-loop μ-loop
 next-permitted-requires c κs = c .before .before .before .pre .1 _ (c .before .loop-test .taken)
 
--- src/placing.rt:78:17
 returns : tie.Need-returns Inv-loop μ-loop
 returns c = let a = c .before .before .before .before .before .before .args in
     sym (allb-fails (some-permitted (a .t1 .each)) _ _ (omega arith) (none-permitted (a .t1 .each) _ _ (c .before .before .next-permitted .ensures) (c .if1 .taken)))
 
--- src/placing.rt:80:13
 add-z : tie.Need-add-z Inv-loop μ-loop
 add-z c = search needs
 
--- src/placing.rt:75:9
 loop-less : tie.Need-loop-less Inv-loop μ-loop
 loop-less c = search needs
 
--- src/placing.rt:75:9
 loop-again : tie.Need-loop-again Inv-loop μ-loop
 loop-again c = let a = c .before .before .before .before .before .before .args in
     (omega arith, allb-more (some-permitted (a .t1 .each)) _ (c .before .before .before .before .before .loop .inv .1) (one-permitted (a .t1 .each) _ _ (c .before .before .next-permitted .ensures) (λ h. omega arith)))
 
--- src/placing.rt:69:5
 returns-2 : tie.Need-returns-2 Inv-loop μ-loop
 returns-2 c = let a = c .before .before .args in
     sym (allb-end (some-permitted (a .t1 .each)) _ _ (omega arith) (omega arith) (c .before .loop .inv .1))

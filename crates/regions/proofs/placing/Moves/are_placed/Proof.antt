@@ -5,27 +5,21 @@ use borrow.Author.Needs.{needs}
 use Rattle.regions.proofs.placing.Moves.are_placed.Statement.{statement}
 use Rattle.regions.proofs.placing.Moves.are_placed.Tie as tie
 
--- src/placing.rt:102:13
 rank-fits-requires : tie.Need-rank-fits-requires
 rank-fits-requires c κs = search needs
 
--- src/placing.rt:103:13
 returns : tie.Need-returns
 returns c = let a = c .before .before .args in not-placed (a .self .each) (a .self .ranks) (a .count) (a .part .intervals) (a .part .ranks) (sym (c .before .rank-fits .ensures) ∙ not-true _ (c .if1 .taken))
 
--- src/placing.rt:105:42
 greatest-rank-of-requires : tie.Need-greatest-rank-of-requires
 greatest-rank-of-requires c κs = search needs
 
--- src/placing.rt:105:9
 least-position-requires : tie.Need-least-position-requires
 least-position-requires c κs = search needs
 
--- src/placing.rt:105:72
 mul-result : tie.Need-mul-result
 mul-result c = search needs
 
--- src/placing.rt:97:5
 returns-2 : tie.Need-returns-2
 returns-2 c = let a = c .before .before .before .before .before .args in is-placed (a .self .each) (a .self .ranks) (a .count) (a .part .intervals) (a .part .ranks) _ _ (sym (c .before .before .before .before .rank-fits .ensures) ∙ not-false _ (c .before .before .before .if1 .left)) (c .before .before .greatest-rank-of .ensures) (c .before .least-position .ensures)
 

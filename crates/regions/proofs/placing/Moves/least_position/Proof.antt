@@ -13,32 +13,25 @@ Inv-loop self part count rank position₀ placed₀ position placed = (placed �
 abbrev μ-loop : tie.MeasureT-loop
 μ-loop self part count rank position₀ placed₀ position placed = rank - placed
 
--- src/placing.rt:89:9
 loop-holds : tie.Need-loop-holds Inv-loop μ-loop
 unfolding greedy-at
 loop-holds c = (omega arith, refl)
 
--- src/placing.rt:90:13
 add-placed : tie.Need-add-placed Inv-loop μ-loop
 add-placed c = search needs
 
--- src/placing.rt:91:64
 add-next-position : tie.Need-add-next-position Inv-loop μ-loop
 add-next-position c = let a = c .before .before .args in omega (arith, greedy-bound (rank-fits-at (a .self .each) (a .count) (a .part .intervals) (a .part .ranks)) (a .self .ranks) (c .before .loop .placed))
 
--- src/placing.rt:91:13
 next-position-requires : tie.Need-next-position-requires Inv-loop μ-loop
 next-position-requires c κs = search needs
 
--- src/placing.rt:89:9
 loop-less : tie.Need-loop-less Inv-loop μ-loop
 loop-less c = search needs
 
--- src/placing.rt:89:9
 loop-again : tie.Need-loop-again Inv-loop μ-loop
 loop-again c = let a = c .before .before .before .args in (omega arith, c .next-position .ensures ∙ greedy-more (rank-fits-at (a .self .each) (a .count) (a .part .intervals) (a .part .ranks)) (a .self .ranks) _ _ (c .before .before .loop .inv .1))
 
--- src/placing.rt:82:5
 returns : tie.Need-returns Inv-loop μ-loop
 returns c = let e : c .before .loop .placed ≡ c .before .before .args .rank = omega arith in rw e at (c .before .loop .inv .1)
 

@@ -14,35 +14,27 @@ Inv-loop self part count rank from last position₀ position = least (rank-fits-
 abbrev μ-loop : tie.MeasureT-loop
 μ-loop self part count rank from last position₀ position = 2 * self .ranks + 1 - position
 
--- src/placing.rt:70:20
 mul-last : tie.Need-mul-last Inv-loop μ-loop
 mul-last c = search needs
 
--- src/placing.rt:72:9
 loop-holds : tie.Need-loop-holds Inv-loop μ-loop
 loop-holds c = refl
 
--- src/placing.rt:73:16
 rank-fits-requires : tie.Need-rank-fits-requires Inv-loop μ-loop
 rank-fits-requires c κs = search needs
 
--- src/placing.rt:74:17
 returns : tie.Need-returns Inv-loop μ-loop
 returns c = let a = c .before .before .before .before .before .args in sym (c .before .before .before .loop .inv ∙ least-here (rank-fits-at (a .self .each) (a .count) (a .part .intervals) (a .part .ranks) (a .rank)) (2 * a .self .ranks + 1) _ (omega arith) (sym (c .before .rank-fits .ensures) ∙ c .if1 .taken))
 
--- src/placing.rt:76:13
 add-position : tie.Need-add-position Inv-loop μ-loop
 add-position c = search needs
 
--- src/placing.rt:72:9
 loop-less : tie.Need-loop-less Inv-loop μ-loop
 loop-less c = search needs
 
--- src/placing.rt:72:9
 loop-again : tie.Need-loop-again Inv-loop μ-loop
 loop-again c = let a = c .before .before .before .before .before .args in c .before .before .before .loop .inv ∙ least-next (rank-fits-at (a .self .each) (a .count) (a .part .intervals) (a .part .ranks) (a .rank)) (2 * a .self .ranks + 1) _ (omega arith) (sym (c .before .rank-fits .ensures) ∙ c .if1 .left)
 
--- src/placing.rt:65:5
 returns-2 : tie.Need-returns-2 Inv-loop μ-loop
 returns-2 c = let a = c .before .before .before .args in sym (c .before .loop .inv ∙ least-none (rank-fits-at (a .self .each) (a .count) (a .part .intervals) (a .part .ranks) (a .rank)) (2 * a .self .ranks + 1) _ (omega arith))
 

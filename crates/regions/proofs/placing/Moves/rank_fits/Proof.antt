@@ -16,53 +16,41 @@ Inv-loop count rank position self part z₀ z = (z ≤ count) × (allb z (clock-
 abbrev μ-loop : tie.MeasureT-loop
 μ-loop count rank position self part z₀ z = count - z
 
--- src/placing.rt:88:9
 loop-holds : tie.Need-loop-holds Inv-loop μ-loop
 unfolding allb
 loop-holds c = (omega arith, refl)
 
--- src/placing.rt:89:25
 mul-asked : tie.Need-mul-asked Inv-loop μ-loop
 mul-asked c = search needs
 
--- src/placing.rt:89:25
 element-copy-out-asked : tie.Need-element-copy-out-asked Inv-loop μ-loop
 element-copy-out-asked c = search needs
 
--- src/placing.rt:90:35
 mul-clock-fits : tie.Need-mul-clock-fits Inv-loop μ-loop
 mul-clock-fits c = search needs
 
--- src/placing.rt:90:35
 element-copy-out-clock-fits : tie.Need-element-copy-out-clock-fits Inv-loop μ-loop
 element-copy-out-clock-fits c = search needs
 
--- src/placing.rt:90:54
 element-copy-out-clock-fits-2 : tie.Need-element-copy-out-clock-fits-2 Inv-loop μ-loop
 element-copy-out-clock-fits-2 c = search needs
 
--- src/placing.rt:90:17
 clock-fits-requires : tie.Need-clock-fits-requires Inv-loop μ-loop
 clock-fits-requires c κs = search needs
 
--- src/placing.rt:91:17
 returns : tie.Need-returns Inv-loop μ-loop
 unfolding rank-fits-at
 returns c = let a = c .before .before .before .before .before .before .before .args in sym (allb-fails (clock-fits-at (a .t1 .each) (a .t2 .intervals) (a .t2 .ranks) (a .rank) (a .position)) _ _ (omega arith) (sym (c .before .clock-fits .ensures) ∙ not-true _ (c .if1 .taken)))
 
--- src/placing.rt:93:13
 add-z : tie.Need-add-z Inv-loop μ-loop
 add-z c = search needs
 
--- src/placing.rt:88:9
 loop-less : tie.Need-loop-less Inv-loop μ-loop
 loop-less c = search needs
 
--- src/placing.rt:88:9
 loop-again : tie.Need-loop-again Inv-loop μ-loop
 loop-again c = let a = c .before .before .before .before .before .before .before .args in (omega arith, allb-more (clock-fits-at (a .t1 .each) (a .t2 .intervals) (a .t2 .ranks) (a .rank) (a .position)) _ (c .before .before .before .before .before .before .loop .inv .1) (sym (c .before .clock-fits .ensures) ∙ not-false _ (c .if1 .left)))
 
--- src/placing.rt:83:5
 returns-2 : tie.Need-returns-2 Inv-loop μ-loop
 unfolding rank-fits-at
 returns-2 c = let a = c .before .before .args in sym (allb-end (clock-fits-at (a .t1 .each) (a .t2 .intervals) (a .t2 .ranks) (a .rank) (a .position)) _ _ (omega arith) (omega arith) (c .before .loop .inv .1))

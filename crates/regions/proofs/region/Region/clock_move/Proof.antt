@@ -4,87 +4,66 @@ use borrow.Author.Needs.{needs}
 use Rattle.regions.proofs.region.Region.clock_move.Statement.{statement}
 use Rattle.regions.proofs.region.Region.clock_move.Tie as tie
 
--- src/clock_move.rt:63:23
 mul-top : tie.Need-mul-top
 mul-top c = search needs
 
--- src/clock_move.rt:63:23
 element-copy-out-top : tie.Need-element-copy-out-top
 element-copy-out-top c = search needs
 
--- src/clock_move.rt:63:19
 mul-top-2 : tie.Need-mul-top-2
 mul-top-2 c = omega (arith, c .before .pre .0 .low (c .before .args .z))
 
--- src/clock_move.rt:63:19
 add-top : tie.Need-add-top
 add-top c = omega (arith, c .before .pre .0 .low (c .before .args .z))
 
--- src/clock_move.rt:69:28
 enum-told : tie.Need-enum-told
 enum-told c = search needs
 
--- src/clock_move.rt:69:28
 mul-t20 : tie.Need-mul-t20
 mul-t20 c = search needs
 
--- src/clock_move.rt:69:28
 element-copy-out-t23 : tie.Need-element-copy-out-t23
 element-copy-out-t23 c = search needs
 
--- src/clock_move.rt:69:28
 cast-t24 : tie.Need-cast-t24
 cast-t24 c = search needs
 
--- src/clock_move.rt:70:23
 element-copy-out-t27 : tie.Need-element-copy-out-t27
 element-copy-out-t27 c = search needs
 
--- src/clock_move.rt:73:30
 enum-known-action : tie.Need-enum-known-action
 enum-known-action c = search needs
 
--- src/clock_move.rt:76:28
 twice-requires : tie.Need-twice-requires
 twice-requires c κs = search needs
 
--- src/clock_move.rt:80:27
 enum-known-action-2 : tie.Need-enum-known-action-2
 enum-known-action-2 c = search needs
 
--- src/clock_move.rt:81:25
 cast-y : tie.Need-cast-y
 cast-y c = search needs
 
--- src/clock_move.rt:84:28
 twice-requires-2 : tie.Need-twice-requires-2
 twice-requires-2 c κs = search needs
 
--- src/clock_move.rt:85:39
 mul-raised : tie.Need-mul-raised
 mul-raised c = search needs
 
--- src/clock_move.rt:85:39
 element-copy-out-raised : tie.Need-element-copy-out-raised
 element-copy-out-raised c = let a = c .before .before .before .before .before .args in omega (arith, c .before .before .before .before .before .pre .0 .few, (clock-in (a .t2) (a .z) (a .update) _ _ _ (c .before .before .action2 .given .1) (c .before .before .before .before .before .pre .1 .1)))
 
--- src/clock_move.rt:85:32
 raised-requires : tie.Need-raised-requires
 raised-requires c κs = search needs
 
--- src/clock_move.rt:86:27
 element-copy-out-t37 : tie.Need-element-copy-out-t37
 element-copy-out-t37 c = let a = c .before .before .before .before .before .before .before .args in omega (arith, c .before .before .before .before .before .before .before .pre .0 .few, (clock-in (a .t2) (a .z) (a .update) _ _ _ (c .before .before .before .before .action2 .given .1) (c .before .before .before .before .before .before .before .pre .1 .1)))
 
--- src/clock_move.rt:57:5
 returns : tie.Need-returns
 returns c = let a = c .before .before .before .before .before .args in move-keep (a .t2) (a .t1) (a .z) (c .before .before .before .before .before .pre .1 .0) (a .update) (c .before .before .enum-told .given .1)
 
--- src/clock_move.rt:57:5
 returns-2 : tie.Need-returns-2
 returns-2 c = let a = c .before .before .before .before .before .args in move-constant (a .t2) (a .t1) (a .z) (c .before .before .before .before .before .pre .1 .0) (a .update) _ _ (c .before .before .action .given .1) (c .twice .ensures)
 
--- src/clock_move.rt:57:5
 returns-3 : tie.Need-returns-3
 returns-3 c = let a = c .before .before .before .before .before .before .before .before .args in move-clock (a .t2) (a .t1) (a .z) (c .before .before .before .before .before .before .before .before .pre .1 .0) (a .update) _ _ _ _ _ (c .before .before .before .before .before .action2 .given .1) (clock-in (a .t2) (a .z) (a .update) _ _ _ (c .before .before .before .before .before .action2 .given .1) (c .before .before .before .before .before .before .before .before .pre .1 .1)) (c .before .before .before .twice2 .ensures) (c .before .raised .ensures)
 

@@ -14,34 +14,27 @@ Inv-loop count self g₀ z₀ g z = (z ≤ count) × (g ≡ greatest (take z (se
 abbrev μ-loop : tie.MeasureT-loop
 μ-loop count self g₀ z₀ g z = count - z
 
--- src/wait.rt:143:9
 loop-holds : tie.Need-loop-holds Inv-loop μ-loop
 loop-holds c = (search needs, refl)
 
--- src/wait.rt:144:28
 element-copy-out-greater : tie.Need-element-copy-out-greater Inv-loop μ-loop
 element-copy-out-greater c = search needs
 
--- src/wait.rt:144:13
 greater-requires : tie.Need-greater-requires Inv-loop μ-loop
 greater-requires c κs = search needs
 
--- src/wait.rt:145:13
 add-z : tie.Need-add-z Inv-loop μ-loop
 add-z c = search needs
 
--- src/wait.rt:143:9
 loop-less : tie.Need-loop-less Inv-loop μ-loop
 loop-less c = search needs
 
--- src/wait.rt:143:9
 loop-again : tie.Need-loop-again Inv-loop μ-loop
 loop-again c = let ks = c .before .before .before .before .args .t1 .ranks in
     let long : length ks ≡ 4 = search needs in
     let i = c .before .before .before .loop .inv in
     (omega arith, rw (greatest-more ks (c .before .before .before .loop .z) (omega arith), ← i .1) (c .greater .ensures))
 
--- src/wait.rt:137:5
 returns : tie.Need-returns Inv-loop μ-loop
 returns c = let e : c .before .loop .z ≡ c .before .before .args .count = omega arith in rw e at (c .before .loop .inv .1)
 

@@ -20,56 +20,44 @@ Inv-loop self clocks e n each₀ z₀ each z = (z ≤ n) × (length each ≡ 4) 
 abbrev μ-loop : tie.MeasureT-loop
 μ-loop self clocks e n each₀ z₀ each z = n - z
 
--- src/placing.rt:45:17
 cast-n : tie.Need-cast-n Inv-loop μ-loop
 cast-n c = search needs
 
--- src/placing.rt:55:9
 loop-holds : tie.Need-loop-holds Inv-loop μ-loop
 loop-holds c = (omega arith, refl, λ w h. absurd (omega arith))
 
--- src/placing.rt:56:26
 mul-update : tie.Need-mul-update Inv-loop μ-loop
 mul-update c = search needs
 
--- src/placing.rt:56:26
 element-copy-out-update : tie.Need-element-copy-out-update Inv-loop μ-loop
 element-copy-out-update c = search needs
 
--- src/placing.rt:57:23
 clock-move-requires : tie.Need-clock-move-requires Inv-loop μ-loop
 clock-move-requires c κs = let a = c .before .before .before .before .args in
     let four : length (a .t3 .updates) ≡ 4 = search (needs, length-under) in
     (c .before .before .before .before .pre .0, (c .before .loop-test .taken, bounded-at (a .clocks) (a .self) (a .t3) (c .before .before .before .before .pre .0 .few) four _ (c .before .loop-test .taken) (search needs) (c .before .before .before .before .pre .1)))
 
--- src/placing.rt:57:13
 mul-each : tie.Need-mul-each Inv-loop μ-loop
 mul-each c = search needs
 
--- src/placing.rt:57:13
 array-set-from-each : tie.Need-array-set-from-each Inv-loop μ-loop
 array-set-from-each c = search needs
 
--- src/placing.rt:58:13
 add-z : tie.Need-add-z Inv-loop μ-loop
 add-z c = search needs
 
--- src/placing.rt:55:9
 loop-less : tie.Need-loop-less Inv-loop μ-loop
 loop-less c = search needs
 
--- src/placing.rt:55:9
 loop-again : tie.Need-loop-again Inv-loop μ-loop
 loop-again c = let a = c .before .before .before .before .before .args in
     let four : length (a .t3 .updates) ≡ 4 = search (needs, length-under) in
     let i = c .before .before .before .loop .inv in
     (omega arith, length-set (c .before .before .before .loop .each) (c .before .before .before .loop .z) (c .clock-move .result) ∙ i .1, moved-more (a .clocks) (a .self) (a .t3) (c .before .before .before .before .before .pre .0 .few) four (c .before .before .before .loop .z) (c .before .before .loop-test .taken) (c .before .before .before .loop .each) (c .clock-move .result) (i .1) (i .2) (c .clock-move .ensures))
 
--- src/placing.rt:61:20
 greatest-rank-of-requires : tie.Need-greatest-rank-of-requires Inv-loop μ-loop
 greatest-rank-of-requires c κs = search needs
 
--- src/placing.rt:40:5
 returns : tie.Need-returns Inv-loop μ-loop
 returns c = let a = c .before .before .before .before .args in
     let n = length-first (a .clocks .count) (a .clocks .bounds) (c .before .before .before .before .pre .0 .few) (search needs) in

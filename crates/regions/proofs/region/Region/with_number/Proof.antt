@@ -5,40 +5,31 @@ use borrow.Author.Needs.{needs}
 use Rattle.regions.proofs.region.Region.with_number.Statement.{statement}
 use Rattle.regions.proofs.region.Region.with_number.Tie as tie
 
--- src/order.rt:39:31
 sub-changed : tie.Need-sub-changed
 sub-changed c = search needs
 
--- src/order.rt:39:13
 mul-changed : tie.Need-mul-changed
 mul-changed c = search needs
 
--- src/order.rt:39:13
 element-write-changed : tie.Need-element-write-changed
 element-write-changed c = search needs
 
--- src/order.rt:40:13
 returns : tie.Need-returns
 unfolding put
 returns c = rw (le-leb _ _ (c .if1 .taken))
 
--- src/order.rt:42:36
 cast-changed : tie.Need-cast-changed
 cast-changed c = omega (arith, c .before .pre .1 .1 (omega arith))
 
--- src/order.rt:42:23
 sub-changed-2 : tie.Need-sub-changed-2
 sub-changed-2 c = search needs
 
--- src/order.rt:42:23
 sub-changed-3 : tie.Need-sub-changed-3
 sub-changed-3 c = search needs
 
--- src/order.rt:42:9
 element-write-changed-2 : tie.Need-element-write-changed-2
 element-write-changed-2 c = search needs
 
--- src/order.rt:31:5
 returns-2 : tie.Need-returns-2
 unfolding put
 returns-2 c = let a = c .before .args in rw (lt-leb (a .i) (a .n) (omega arith))

@@ -1,2 +1,0 @@
--- What the examples' calls require.
-pub mod Cases

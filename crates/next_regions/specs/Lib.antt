@@ -1,2 +1,0 @@
--- The edges of the examples.
-pub mod Examples
