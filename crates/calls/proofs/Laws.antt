@@ -15,6 +15,9 @@ pub mod Follow
 pub mod Prefix
 -- small answers
 pub mod SmallAnswers
+-- writing to buffers, text
+pub mod Writing
+pub mod Text
 -- the calls together
 pub mod Claims
 -- the main theorems, and the examples

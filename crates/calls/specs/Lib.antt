@@ -2,5 +2,6 @@
 pub mod RunFile
 pub mod RegionFile
 pub mod Follow
+pub mod Text
 pub mod Program
 pub mod Meaning

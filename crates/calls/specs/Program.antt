@@ -3,13 +3,13 @@ use Prim.Native.Nat.{ℕ, zero, suc, _/_, _%_}
 use Prim.Native.String.{String, _++_}
 use mathlib.Core.Path.{_≡_}
 use mathlib.Core.Bool.{Bool, true, false, cond}
-use mathlib.Core.Option.{Option, none, some}
 use mathlib.Core.List.{List, [], _∷_}
 use lib.ListN.{getD, take}
 use lib.Dec.{ltb}
 use Rattle.automata.specs.Checks.{same}
 use Rattle.table_files.specs.Bytes.{RN}
 use Rattle.table_files.specs.Answer.{Answer, accepted, refused}
+use Rattle.calls.specs.Text.{ascii}
 use Rattle.calls.specs.RunFile.{run-answer}
 use Rattle.calls.specs.RegionFile.{ListAnswer}
 
@@ -23,7 +23,7 @@ decimal-of zero n = ""
 decimal-of (suc k) n = cond (ltb n 10) (digit n) (decimal-of k (n / 10) ++ digit (n % 10))
 
 -- every count, number and place that is printed is below 100,000 (`Small` in Meaning), so five digits are never too few
-abbrev pub decimal : ℕ → String
+unfoldable pub decimal : ℕ → String
 decimal n = decimal-of 5 n
 
 -- "Printed: `EMPTY 8` (verdict, rows)"; "printed `REFUSED 11 2` (number, place)"; "`REACHED 2` (steps)"
@@ -40,11 +40,6 @@ PrintedFor false table file line = (answer : Answer) × ListAnswer table file an
 abbrev pub Printed : List ℕ → List ℕ → String → Type 0
 Printed table file line = PrintedFor (same RN (take 2 file)) table file line
 
--- "A file that can't be opened counts as empty"
-abbrev pub bytes-of : Option (List ℕ) → List ℕ
-bytes-of none = []
-bytes-of (some bytes) = bytes
-
--- "reads table.tab and proof.prf .. and prints one line": the lines, each with its newline, for the files as they are found
-abbrev pub Prints : Option (List ℕ) → Option (List ℕ) → String → Type 0
-Prints table file text = (line : String) × Printed (bytes-of table) (bytes-of file) line × (text ≡ line ++ "\n")
+-- "prints one line": the bytes that may be written for the two files are such a line in ASCII, and a newline
+abbrev pub Prints : List ℕ → List ℕ → List ℕ → Type 0
+Prints table file bytes = (line : String) × Printed table file line × (bytes ≡ ascii (line ++ "\n"))

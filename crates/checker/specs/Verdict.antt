@@ -1,6 +1,9 @@
 -- The line of a verdict. Assumes nothing.
-use Prim.Native.String.{String}
+use Prim.Native.Nat.{ℕ}
+use Prim.Native.String.{String, _++_}
+use mathlib.Core.List.{List}
 use Rattle.table_files.specs.Answer.{accepted, refused}
+use Rattle.calls.specs.Text.{ascii}
 use Rattle.calls.specs.Program.{printed}
 use Rattle.checker.specs.declared.verdict.Verdict.{Verdict}
 use Rattle.checker.specs.declared.verdict.Verdict.the-variants.{Reached, Empty, Refused}
@@ -10,3 +13,7 @@ abbrev pub line-of : Verdict → String
 line-of (Reached steps) = printed "REACHED" (accepted steps)
 line-of (Empty rows) = printed "EMPTY" (accepted rows)
 line-of (Refused number place) = printed "REFUSED" (refused number place)
+
+-- that line in ASCII, and a newline
+unfoldable pub text-of : Verdict → List ℕ
+text-of v = ascii (line-of v ++ "\n")

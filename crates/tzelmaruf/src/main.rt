@@ -1,10 +1,30 @@
-// Reads table.tab and proof.prf from the working directory, and prints one line: the verdict. What is decided is decided in the library.
+// Reads table.tab and proof.prf from the working directory, and prints one line: the verdict. What is decided, and the bytes of that line, are
+// the library's.
 ghost use Rattle.io.specs.Counts.{Counts};
-use checker::verdict::Verdict;
-use checker::verdict::judge;
+use checker::line::print;
 use libc::STDOUT_FILENO;
 
-// The first bytes of a file, as many as the buffer holds, which is enough to tell (`judge`); none of a file that cannot be opened.
+// The first bytes of an open file, as many as the buffer holds, which is enough to tell (`print`). A file of which a read fails before that, or
+// before its end, counts as one that cannot be opened: none.
+fn read_bytes(file: i32, buffer: &mut [u8]) -> usize
+    ensures { λ r. ⌜ Counts r (now (buffer .exit)) ⌝ }
+{
+    let mut done = 0;
+    while done < buffer.len() {
+        let got = libc::read(file, &mut buffer[done..]);
+        if got < 0 {
+            return 0;
+        }
+        let more = io::count(got, &buffer[done..]);
+        if more == 0 {
+            return done;
+        }
+        done += more;
+    }
+    done
+}
+
+// The first bytes of a file; none of one that cannot be opened or read.
 fn read_file(path: &[u8], buffer: &mut [u8]) -> usize
     ensures { λ r. ⌜ Counts r (now (buffer .exit)) ⌝ }
 {
@@ -12,33 +32,9 @@ fn read_file(path: &[u8], buffer: &mut [u8]) -> usize
     if file < 0 {
         return 0;
     }
-    let n = io::read_full(file, buffer);
+    let n = read_bytes(file, buffer);
     libc::close(file);
     n
-}
-
-fn print_number(n: u64) {
-    io::write_all(STDOUT_FILENO, b" ");
-    io::print_decimal(STDOUT_FILENO, n);
-}
-
-fn print_verdict(v: Verdict) {
-    match v {
-        Verdict::Reached(steps) => {
-            io::write_all(STDOUT_FILENO, b"REACHED");
-            print_number(steps as u64);
-        }
-        Verdict::Empty(rows) => {
-            io::write_all(STDOUT_FILENO, b"EMPTY");
-            print_number(rows as u64);
-        }
-        Verdict::Refused(number, place) => {
-            io::write_all(STDOUT_FILENO, b"REFUSED");
-            print_number(number as u64);
-            print_number(place as u64);
-        }
-    }
-    io::write_all(STDOUT_FILENO, b"\n");
 }
 
 fn main() {
@@ -46,5 +42,7 @@ fn main() {
     let mut paper = io::large_buffer();
     let table_length = read_file(b"table.tab", &mut table);
     let paper_length = read_file(b"proof.prf", &mut paper);
-    print_verdict(judge(&table[..table_length], &paper[..paper_length]));
+    let mut line = [0u8; 32];
+    let n = print(&mut line, &table[..table_length], &paper[..paper_length]);
+    io::write_all(STDOUT_FILENO, &line[..n]);
 }

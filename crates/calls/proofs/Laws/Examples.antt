@@ -15,7 +15,7 @@ use Rattle.table_files.specs.Admission.{edges-bounded, admitted, admission}
 use Rattle.calls.specs.RunFile.{step-record, run-file, steps-taken, run-checked, run-answer}
 use Rattle.calls.specs.RegionFile.{row-width, row-record, region-file, ascending, none-final, rows-checked, lacking, exactly, somewhere, list-outcome}
 use Rattle.calls.specs.Follow.{followed, rows-followed, following, follow-answer, follow-buffer}
-use Rattle.calls.specs.Program.{Printed}
+use Rattle.calls.specs.Program.{decimal, Printed}
 
 -- P1's table; comparison is the second guard's, < there
 abbrev pub table : ℕ → List ℕ
@@ -109,6 +109,6 @@ unfolding
     header location edge-record table-file edges-bounded admitted admission
     step-record run-file steps-taken run-checked run-answer
     row-width row-record region-file ascending none-final rows-checked next-rows lacking list-outcome
-    followed rows-followed following follow-answer follow-buffer
+    followed rows-followed following follow-answer follow-buffer decimal
 examples =
     ((refl, refl, (accepted 8, refl, refl)), refl, refl, (refl, refl), (refl, refl), (refl, refl), (refl, refl), (refl, refl), refl, (refl, refl))

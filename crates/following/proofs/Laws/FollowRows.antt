@@ -28,7 +28,7 @@ use Rattle.table_files.specs.Answer.{Answer, accepted, refused}
 use Rattle.calls.specs.RegionFile.{row-width, row-bytes, rows-bytes}
 use Rattle.calls.proofs.Laws.Rows.{row-width-is}
 use Rattle.following.specs.Following.{Stands, Leaves, rows-waited, rows-led, fits, told, put}
-use Rattle.rows.proofs.Laws.Writing.{rest-next}
+use Rattle.calls.proofs.Laws.Writing.{rest-next}
 use Rattle.following.proofs.Laws.Stepping.{Sized, Listed, Stepped, Found, all-found, one-found}
 
 -- the bytes of rows ------------------------------------------------------------------------------------------------------------

@@ -5,7 +5,7 @@ use mathlib.Core.Path.{_≡_}
 use lib.ListN.{length-set}
 use lib.ListN.{length, take, drop}
 use borrow.Author.Needs.{needs}
-use Rattle.rows.proofs.Laws.Writing.{copy-next}
+use Rattle.calls.proofs.Laws.Writing.{copy-next}
 use Rattle.rows.proofs.row_writer.write_ranks.Statement.{statement}
 use Rattle.rows.proofs.row_writer.write_ranks.Tie as tie
 

@@ -1,0 +1,2 @@
+-- The laws of the writers of text.
+pub mod Digits

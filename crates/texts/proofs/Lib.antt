@@ -1,0 +1,2 @@
+-- The proofs of the writers of text.
+pub mod Laws

@@ -1,0 +1,2 @@
+-- What the writers of text go by.
+pub mod Digits
