@@ -6,29 +6,8 @@
 #include <stdlib.h>
 #include <string.h>
 
-enum { EXIT_ACCEPTED = 0, EXIT_REFUSED = 1, EXIT_TROUBLE = 2 };
-
-/* The meaning of each refusal, by its number. */
-static const char *const meanings[] = {
-    "accepted",
-    "the table ends inside a record, or a record has another mark",
-    "a field of the table's header is out of range",
-    "a field of a location or an edge is out of range",
-    "bytes follow the table's last record",
-    "a guard or constant update exceeds its clock's bound",
-    "a clock update breaks the bound rule",
-    "the paper ends inside a record, or a record has another mark",
-    "a field of the paper is out of range",
-    "bytes follow the paper's last record",
-    "a step's edge leaves from another location",
-    "a guard fails after the delay",
-    "a new clock value is not allowed",
-    "the run ends in a location that is not final",
-    "a row is not above the one before",
-    "a row's location is final",
-    "the initial row is missing",
-    "a row lacks a next row",
-};
+/* Only a good library gives 0: an accepted run shows that the library is bad. */
+enum { EXIT_GOOD = 0, EXIT_REFUSED = 1, EXIT_TROUBLE = 2, EXIT_REACHED = 3 };
 
 /*
  * A file in memory, right up to the end of its block, so that a read past its end does not go unnoticed under valgrind. Of an empty
@@ -67,15 +46,14 @@ static int read_file(const char *name, struct file *file) {
     return 1;
 }
 
-/* Prints the answer in words; what was counted is named by `counted`, what was accepted by `verdict`. */
-static int report(uint32_t answer, const char *verdict, const char *counted) {
+/* Prints the answer in words, and gives the exit status: `accepted` if it is an acceptance, which `verdict` and `counted` name. */
+static int report(uint32_t answer, int accepted, const char *verdict, const char *counted) {
     unsigned number = TZELMARUF_NUMBER(answer);
     if (number == TZELMARUF_ACCEPTED) {
         printf("%s: %u %s\n", verdict, TZELMARUF_COUNT(answer), counted);
-        return EXIT_ACCEPTED;
+        return accepted;
     }
-    const char *meaning = number < sizeof meanings / sizeof meanings[0] ? meanings[number] : "unknown refusal";
-    printf("REFUSED %u at record %u: %s\n", number, TZELMARUF_PLACE(answer), meaning);
+    printf("REFUSED %u at record %u: %s\n", number, TZELMARUF_PLACE(answer), tzelmaruf_meaning(number));
     return EXIT_REFUSED;
 }
 
@@ -86,24 +64,45 @@ static int is_run(struct file paper) {
 static int check(struct file table, struct file paper) {
     if (is_run(paper)) {
         uint32_t answer = tzelmaruf_check_run(table.bytes, table.length, paper.bytes, paper.length);
-        return report(answer, "REACHED a final location", "steps");
+        return report(answer, EXIT_REACHED, "REACHED a final location", "steps");
     }
     uint32_t answer = tzelmaruf_check_regions(table.bytes, table.length, paper.bytes, paper.length);
-    return report(answer, "EMPTY, no run enters a final location", "rows");
+    return report(answer, EXIT_GOOD, "EMPTY, no run enters a final location", "rows");
 }
 
 static const char usage[] =
-    "usage: check TABLE [PAPER]\n"
-    "Admits a table, or checks a paper (a run list or a region list) against it.\n"
-    "Exit status: 0 accepted, 1 refused, 2 a file could not be read or the answer not be written.\n";
+    "usage: check TABLE [PAPER]   (tzelmaruf-check where it is installed)\n"
+    "\n"
+    "Admits the table, or checks the paper (a run list or a region list) against it, and says in one line what was found.\n"
+    "\n"
+    "Exit status:\n"
+    "  0   EMPTY: no run of the table enters a final location; for a table alone: ADMITTED\n"
+    "  1   REFUSED: the paper shows nothing, or the table is none\n"
+    "  2   no answer: wrong usage, a file could not be read, or the answer not be written\n"
+    "  3   REACHED: a run enters a final location, the library is bad\n"
+    "\n"
+    "Options: -h, --help   this text;   --version   the release\n";
+
+/* Whether all that was printed has been written. */
+static int is_written(void) {
+    if (fflush(stdout) == 0 && !ferror(stdout))
+        return 1;
+    fprintf(stderr, "check: cannot write the answer: %s\n", strerror(errno));
+    return 0;
+}
+
+static int say(const char *text) {
+    fputs(text, stdout);
+    return is_written() ? EXIT_GOOD : EXIT_TROUBLE;
+}
 
 int main(int argc, char **argv) {
     struct file table = {0}, paper = {0};
     int status = EXIT_TROUBLE;
-    if (argc == 2 && (!strcmp(argv[1], "-h") || !strcmp(argv[1], "--help"))) {
-        fputs(usage, stdout);
-        return EXIT_ACCEPTED;
-    }
+    if (argc == 2 && (!strcmp(argv[1], "-h") || !strcmp(argv[1], "--help")))
+        return say(usage);
+    if (argc == 2 && !strcmp(argv[1], "--version"))
+        return say("tzelmaruf " TZELMARUF_VERSION "\n");
     if (argc != 2 && argc != 3) {
         fputs(usage, stderr);
         return EXIT_TROUBLE;
@@ -111,13 +110,11 @@ int main(int argc, char **argv) {
     if (!read_file(argv[1], &table))
         return EXIT_TROUBLE;
     if (argc == 2)
-        status = report(tzelmaruf_admit(table.bytes, table.length), "ADMITTED", "records");
+        status = report(tzelmaruf_admit(table.bytes, table.length), EXIT_GOOD, "ADMITTED", "records");
     else if (read_file(argv[2], &paper))
         status = check(table, paper);
-    if (fflush(stdout) != 0) {
-        fprintf(stderr, "check: cannot write the answer: %s\n", strerror(errno));
+    if (!is_written())
         status = EXIT_TROUBLE;
-    }
     free(paper.block);
     free(table.block);
     return status;

@@ -17,10 +17,10 @@ pub fn admitted(table: &[u8]) -> Result<Automaton, Refusal> {
     for (edge_number, edge) in automaton.edges.iter().enumerate() {
         let place = automaton.edge_place(edge_number);
         if exceeds_bound(edge, &automaton.bounds) {
-            return Err(Refusal::new(number::ABOVE_BOUND, place));
+            return Err(Refusal::new(number::CONSTANT_ABOVE_BOUND, place));
         }
         if breaks_bound_rule(edge, &automaton.bounds) {
-            return Err(Refusal::new(number::BOUND_RULE, place));
+            return Err(Refusal::new(number::CLOCK_BREAKS_BOUND, place));
         }
     }
     Ok(automaton)

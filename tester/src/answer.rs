@@ -1,24 +1,25 @@
 //! What a call answers: accepted with a count, or refused with number and place.
 
-/// The refusal numbers, named.
+/// The refusal numbers by the names of `host/tzelmaruf.h`; the last two are
+/// following's, which has no function there.
 pub mod number {
     pub const TABLE_CUT: u8 = 1;
-    pub const HEADER_FIELD: u8 = 2;
-    pub const TABLE_FIELD: u8 = 3;
-    pub const TABLE_EXCESS: u8 = 4;
-    pub const ABOVE_BOUND: u8 = 5;
-    pub const BOUND_RULE: u8 = 6;
-    pub const SECOND_CUT: u8 = 7;
-    pub const SECOND_FIELD: u8 = 8;
-    pub const SECOND_EXCESS: u8 = 9;
-    pub const EDGE_ELSEWHERE: u8 = 10;
+    pub const HEADER_RANGE: u8 = 2;
+    pub const TABLE_RANGE: u8 = 3;
+    pub const TABLE_LONG: u8 = 4;
+    pub const CONSTANT_ABOVE_BOUND: u8 = 5;
+    pub const CLOCK_BREAKS_BOUND: u8 = 6;
+    pub const LIST_CUT: u8 = 7;
+    pub const LIST_RANGE: u8 = 8;
+    pub const LIST_LONG: u8 = 9;
+    pub const EDGE_FROM_ELSEWHERE: u8 = 10;
     pub const GUARD_FAILS: u8 = 11;
     pub const VALUE_NOT_ALLOWED: u8 = 12;
     pub const END_NOT_FINAL: u8 = 13;
-    pub const NOT_ASCENDING: u8 = 14;
-    pub const FINAL_ROW: u8 = 15;
-    pub const INITIAL_MISSING: u8 = 16;
-    pub const NEXT_MISSING: u8 = 17;
+    pub const ROWS_NOT_ASCENDING: u8 = 14;
+    pub const ROW_FINAL: u8 = 15;
+    pub const INITIAL_ROW_MISSING: u8 = 16;
+    pub const NEXT_ROW_MISSING: u8 = 17;
     pub const NOT_A_NUMBER_TO_FOLLOW: u8 = 18;
     pub const BUFFER_SHORT: u8 = 19;
 }

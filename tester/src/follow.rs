@@ -21,7 +21,7 @@ fn written_rows(table: &[u8], row: &[u8], number: u16, buffer: &mut [u8]) -> Res
     let automaton = admitted(table)?;
     let mut reader = Reader::new(row);
     let region = read_row(&mut reader, &automaton)?;
-    reader.end(number::SECOND_EXCESS)?;
+    reader.end(number::LIST_LONG)?;
     if number != WAIT && usize::from(number) >= automaton.edges.len() {
         return Err(Refusal::new(number::NOT_A_NUMBER_TO_FOLLOW, 0));
     }

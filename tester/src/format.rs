@@ -81,7 +81,7 @@ pub fn parse_table(table: &[u8]) -> Result<Automaton, Refusal> {
         let edge = read_edge(&mut reader, clocks, header.locations)?;
         automaton.edges.push(edge);
     }
-    reader.end(number::TABLE_EXCESS)?;
+    reader.end(number::TABLE_LONG)?;
     Ok(automaton)
 }
 
@@ -94,7 +94,7 @@ struct Header {
 
 fn read_header(reader: &mut Reader) -> Result<Header, Refusal> {
     let cut = reader.refusal(number::TABLE_CUT);
-    let wrong = reader.refusal(number::HEADER_FIELD);
+    let wrong = reader.refusal(number::HEADER_RANGE);
     let fields = reader.marked(b"TA", 5).ok_or(cut)?;
     let (clocks, locations, initial) = (fields[0], fields[1], fields[2]);
     let edges = usize::from(two_bytes(&fields[3..5]));
@@ -123,7 +123,7 @@ fn read_location(reader: &mut Reader) -> Result<Location, Refusal> {
     let cut = reader.refusal(number::TABLE_CUT);
     let flags = reader.marked(b"LO", 1).ok_or(cut)?[0];
     if flags > 3 {
-        return Err(reader.refusal(number::TABLE_FIELD));
+        return Err(reader.refusal(number::TABLE_RANGE));
     }
     reader.record_done();
     Ok(Location {
@@ -134,7 +134,7 @@ fn read_location(reader: &mut Reader) -> Result<Location, Refusal> {
 
 fn read_edge(reader: &mut Reader, clocks: usize, locations: usize) -> Result<Edge, Refusal> {
     let cut = reader.refusal(number::TABLE_CUT);
-    let wrong = reader.refusal(number::TABLE_FIELD);
+    let wrong = reader.refusal(number::TABLE_RANGE);
     let fields = reader.marked(b"ED", 3).ok_or(cut)?;
     let (source, target, count) = (fields[0], fields[1], usize::from(fields[2]));
     let located = usize::from(source) < locations && usize::from(target) < locations;

@@ -38,7 +38,7 @@ impl ListAnswer {
 }
 
 fn lacking_at(place: u16) -> Answer {
-    Refusal::new(number::NEXT_MISSING, place).into()
+    Refusal::new(number::NEXT_ROW_MISSING, place).into()
 }
 
 /// Checks a region list against a table: refusals 1 to 9 and 14 to 17. The
@@ -63,14 +63,14 @@ fn listed_rows(table: &[u8], list: &[u8]) -> Result<(Automaton, Vec<Region>), Re
     let rows = parse_regions(&automaton, list)?;
     if let Some(index) = rows.windows(2).position(|pair| pair[1] <= pair[0]) {
         // The second row of the pair is at fault; header and counting from 0 add two.
-        return Err(Refusal::new(number::NOT_ASCENDING, index as u16 + 2));
+        return Err(Refusal::new(number::ROWS_NOT_ASCENDING, index as u16 + 2));
     }
     let is_final = |row: &Region| automaton.is_final(row.location());
     if let Some(index) = rows.iter().position(is_final) {
-        return Err(Refusal::new(number::FINAL_ROW, index as u16 + 1));
+        return Err(Refusal::new(number::ROW_FINAL, index as u16 + 1));
     }
     if rows.binary_search(&Region::initial(&automaton)).is_err() {
-        return Err(Refusal::new(number::INITIAL_MISSING, 0));
+        return Err(Refusal::new(number::INITIAL_ROW_MISSING, 0));
     }
     Ok((automaton, rows))
 }
@@ -119,29 +119,29 @@ fn all_listed(rows: &[Region], next_rows: NextRows) -> bool {
 /// Reads a region list: refusals 7 to 9.
 pub fn parse_regions(automaton: &Automaton, list: &[u8]) -> Result<Vec<Region>, Refusal> {
     let mut reader = Reader::new(list);
-    let cut = reader.refusal(number::SECOND_CUT);
+    let cut = reader.refusal(number::LIST_CUT);
     let count = two_bytes(reader.marked(b"RL", 2).ok_or(cut)?);
     if count > GREATEST_ROWS {
-        return Err(reader.refusal(number::SECOND_FIELD));
+        return Err(reader.refusal(number::LIST_RANGE));
     }
     reader.record_done();
     let mut rows = Vec::with_capacity(usize::from(count));
     for _ in 0..count {
         rows.push(read_row(&mut reader, automaton)?);
     }
-    reader.end(number::SECOND_EXCESS)?;
+    reader.end(number::LIST_LONG)?;
     Ok(rows)
 }
 
 /// Reads one row record: refusals 7 and 8.
 pub fn read_row(reader: &mut Reader, automaton: &Automaton) -> Result<Region, Refusal> {
     let clocks = automaton.clocks();
-    let cut = reader.refusal(number::SECOND_CUT);
+    let cut = reader.refusal(number::LIST_CUT);
     let fields = reader.marked(b"RW", row_length(clocks) - 2).ok_or(cut)?;
     let location = fields[0];
     let (intervals, ranks) = fields[1..].split_at(clocks);
     if !is_row(automaton, location, intervals, ranks) {
-        return Err(reader.refusal(number::SECOND_FIELD));
+        return Err(reader.refusal(number::LIST_RANGE));
     }
     reader.record_done();
     Ok(Region::new(location, intervals, ranks))

@@ -48,7 +48,7 @@ pub fn walk(automaton: &Automaton, run: &Run) -> Result<u8, Refusal> {
         let place = index as u16 + 1;
         let edge = &automaton.edges[usize::from(step.edge)];
         if edge.source != location {
-            return Err(Refusal::new(number::EDGE_ELSEWHERE, place));
+            return Err(Refusal::new(number::EDGE_FROM_ELSEWHERE, place));
         }
         // 64 bits: a value and a delay of four bytes each may pass 32 together.
         for value in &mut values {
@@ -101,29 +101,29 @@ pub fn update_allows(update: Update, own: usize, old: &[i64], new: i64, scale: i
 /// Reads a run list: refusals 7 to 9.
 pub fn parse_run(automaton: &Automaton, list: &[u8]) -> Result<Run, Refusal> {
     let mut reader = Reader::new(list);
-    let cut = reader.refusal(number::SECOND_CUT);
+    let cut = reader.refusal(number::LIST_CUT);
     let fields = reader.marked(b"RN", 4).ok_or(cut)?;
     let (scale, count) = (two_bytes(&fields[0..2]), two_bytes(&fields[2..4]));
     if !(1..=GREATEST_SCALE).contains(&scale) || count > GREATEST_STEPS {
-        return Err(reader.refusal(number::SECOND_FIELD));
+        return Err(reader.refusal(number::LIST_RANGE));
     }
     reader.record_done();
     let mut steps = Vec::with_capacity(usize::from(count));
     for _ in 0..count {
         steps.push(read_step(&mut reader, automaton)?);
     }
-    reader.end(number::SECOND_EXCESS)?;
+    reader.end(number::LIST_LONG)?;
     Ok(Run { scale, steps })
 }
 
 fn read_step(reader: &mut Reader, automaton: &Automaton) -> Result<Step, Refusal> {
-    let cut = reader.refusal(number::SECOND_CUT);
+    let cut = reader.refusal(number::LIST_CUT);
     let fields = reader
         .marked(b"ST", 6 + 4 * automaton.clocks())
         .ok_or(cut)?;
     let edge = two_bytes(&fields[0..2]);
     if usize::from(edge) >= automaton.edges.len() {
-        return Err(reader.refusal(number::SECOND_FIELD));
+        return Err(reader.refusal(number::LIST_RANGE));
     }
     reader.record_done();
     Ok(Step {
