@@ -3,7 +3,9 @@
 # could keep anything between calls, and a bounded stack. The last line is 'N passed, M failed'.
 set -u
 cd "$(dirname "$0")/.." || exit 1
-library=target/staticlib/libchecker.a
+# as it is installed: made of the archive that rt has written, with nothing added
+library=target/host/libtzelmaruf.a
+written=target/staticlib/libchecker.a
 # the most stack that docs/EVIDENCE.md promises for each function, in bytes
 limit=16384
 passed=0 failed=0
@@ -36,9 +38,12 @@ noticed 'a function from outside' inner=3 ' a: call   0 <elsewhere>'
 
 if ! command -v objdump > /dev/null; then
   bad "no command 'objdump' on the PATH: it comes with binutils, as nm and size do"
-elif [ ! -f "$library" ]; then
-  bad "there is no $library: build it with 'rt staticlib checker'"
+elif [ ! -f "$written" ]; then
+  bad "there is no $written: build it with 'rt staticlib checker'"
+elif ! make -s -C host RT=; then
+  bad 'make -C host fails'
 else
+  if cmp -s "$library" "$written"; then ok; else bad "$library is not what rt has written to $written"; fi
   outward=$(nm -g --defined-only "$library" | awk 'NF == 3 {print $3}' | sort | tr '\n' ' ')
   is 'functions outward' 'tzelmaruf_admit tzelmaruf_check_regions tzelmaruf_check_run ' "$outward"
   needed=$(nm -u "$library" | awk '$1 == "U" {print $2}' | grep -vxE 'memcpy|memmove|memset|memcmp' | sort | tr '\n' ' ')

@@ -1,6 +1,7 @@
 #!/usr/bin/env bash
-# Runs the program on each folder of tests/program, and on files that are longer than any it accepts, and compares what it prints with the
-# line expected there (where a place is free, one of the lines between '|'). The last line is 'N passed, M failed'.
+# Runs the program on each folder of tests/program and examples, and on files that are longer than any it accepts, and compares what it prints with the
+# line expected there (where a place is free, one of the lines between '|'). Then on a folder for each refusal: the number that it prints is the one
+# that host/tzelmaruf.h gives the folder's name. The last line is 'N passed, M failed'.
 set -u
 cd "$(dirname "$0")/.." || exit 1
 program=$PWD/target/bin/tzelmaruf
@@ -18,7 +19,7 @@ check() {
   esac
 }
 
-for folder in tests/program/*/; do
+for folder in tests/program/*/ examples/*/; do
   check "$(basename "$folder")" "$folder" "$(cat "$folder/expected")"
 done
 
@@ -40,6 +41,17 @@ cp tests/program/p1/table.tab "$room/device" && ln -s /dev/zero "$room/device/pr
 check device "$room/device" 'REFUSED 7 0'
 cp tests/program/p1/*.??? "$room/sparse" && truncate -s 5G "$room/sparse/proof.prf"
 check sparse "$room/sparse" 'REFUSED 9 9'
+
+# number NAME: that of a refusal, by the name of its folder
+number() { sed -nE "s/^ *X\(([0-9]+), $(tr a-z- A-Z_ <<< "$1"), .*/\1/p" host/tzelmaruf.h; }
+for folder in tests/refusals/*/; do
+  name=$(basename "$folder")
+  line=$(cd "$folder" && "$program" 2>&1)
+  case $line in
+    "REFUSED $(number "$name") "*) passed=$((passed + 1)) ;;
+    *) failed=$((failed + 1)); echo "program: refusals/$name: printed '$line', host/tzelmaruf.h has the number '$(number "$name")'" ;;
+  esac
+done
 
 echo "$passed passed, $failed failed"
 [ "$failed" -eq 0 ]
