@@ -87,7 +87,7 @@ done < <(grep -E '^    uint32_t ' README.md)
 
 # ---- refusals: numbers, names and words are those of host/tzelmaruf.h
 refusals() { sed -nE 's/^ *X\(([0-9]+), ([A-Z_]+), "(.*)"\).*/\1 \2 \3/p' host/tzelmaruf.h; }
-is 'refusal numbers in host/tzelmaruf.h' "$(seq 17)" "$(refusals | cut -d ' ' -f 1)"
+is 'refusal numbers in host/tzelmaruf.h' "$(seq -s ' ' 17)" "$(refusals | cut -d ' ' -f 1 | xargs)"
 refusals | cut -d ' ' -f 1,3- > "$room/a"
 sed -n '/^## Why a file is refused/,/^## /p' README.md | sed -nE 's/^\| ([0-9]+) \| (.)(.*) \| [^|]* \|$/\1 \L\2\E\3/p' | head -n 17 > "$room/b"
 same 'words of host/tzelmaruf.h (<) and of README.md (>)'
@@ -95,8 +95,8 @@ refusals | cut -d ' ' -f 1,2 > "$room/a"
 sed -nE 's/^ *pub const ([A-Z_]+): u8 = ([0-9]+);/\2 \1/p' tester/src/answer.rs > "$room/constants"
 head -n 17 "$room/constants" > "$room/b"
 same 'names of host/tzelmaruf.h (<) and of tester/src/answer.rs (>)'
-is 'numbers in tester/src/answer.rs' "$(seq 19)" "$(cut -d ' ' -f 1 "$room/constants")"
-is 'numbers in README.md' "$(seq 19)" "$(sed -nE 's/^\| ([0-9]+) \|.*/\1/p' README.md)"
+is 'numbers in tester/src/answer.rs' "$(seq -s ' ' 19)" "$(cut -d ' ' -f 1 "$room/constants" | xargs)"
+is 'numbers in README.md' "$(seq -s ' ' 19)" "$(sed -nE 's/^\| ([0-9]+) \|.*/\1/p' README.md | xargs)"
 # the words of each name, written once more by hand
 refusals | cut -d ' ' -f 2- | sort > "$room/a"
 for folder in tests/refusals/*/; do
