@@ -83,6 +83,9 @@ static inline const char *tzelmaruf_meaning(unsigned number) {
     }
 }
 
+#undef TZELMARUF_AS_ENUMERATOR
+#undef TZELMARUF_AS_CASE
+
 /* The count of an answer; 0 of a refusal. */
 static inline unsigned tzelmaruf_count(uint32_t answer) {
     return answer < 65536u ? (unsigned)answer : 0u;

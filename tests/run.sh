@@ -7,7 +7,7 @@ export LC_ALL=C
 cd "$(dirname "$0")/.." || exit 1
 here=$PWD
 program=$here/target/bin/tzelmaruf
-room=$(mktemp -d) && trap 'chmod -R u+w "$room"; rm -rf "$room"' EXIT
+room=$(mktemp -d) && trap 'chmod -R u+rwX "$room"; rm -rf "$room"' EXIT
 passed=0 failed=0
 [ -x "$program" ] || { echo "run: there is no $program: build it with 'rt check tzelmaruf'"; echo "0 passed, 1 failed"; exit 1; }
 
@@ -115,8 +115,11 @@ run 'a pipe whose writer hangs' 2 '' 'nobody closed the pipe' impatient "$room/t
 kill $writer 2> /dev/null
 wait
 run 'a pipe without a writer' 2 '' 'nobody closed the pipe' impatient "$room/two words"
-mkdir "$room/socket" && cp examples/empty/table.tab "$room/socket" && ln -s /dev/zero "$room/socket/proof.prf"
-run 'a device without end' 1 'REFUSED 7 0' '' quick "$room/socket"
+mkdir "$room/device" && cp examples/empty/table.tab "$room/device" && ln -s /dev/zero "$room/device/proof.prf"
+run 'a device without end' 1 'REFUSED 7 0' '' quick "$room/device"
+# a file that can be opened and not be read: the first bytes of a process's memory
+ln -sf /proc/self/mem "$room/device/proof.prf"
+run 'a file that cannot be read' 2 '' 'could not be read to its end' quick "$room/device"
 # the longest paper that is accepted: a copy that is cut short would be refused
 mkdir "$room/long" && tests/longest.sh "$room/long"
 run 'the longest run list' 3 'REACHED 2048' 'do not load the library' quick "$room/long"
@@ -287,6 +290,10 @@ is 'two calls at once' 'EMPTY 8 EMPTY 8' "$(cat "$room/first") $(cat "$room/seco
 # nothing can be written: the record tells, as long as nothing need be built
 limited() { (ulimit -f 128 && with_rt good); }
 run 'a full checkout' 0 'EMPTY 8' 'going by the record' limited
+cp "$copy/target/tzelmaruf.record" "$room" && echo 'program: 0' > "$copy/target/tzelmaruf.record"
+run 'a full checkout, and something to build' 2 '' 'cannot write to' limited
+is 'lines about a full checkout' 1 "$(wc -l < "$room/said")"
+mv "$room/tzelmaruf.record" "$copy/target"
 chmod -R a+rX "$room" && chmod -R a-w "$copy"
 # root writes where it may not: it tries as nobody
 other_user=()
