@@ -109,6 +109,15 @@ release=$(sed -n 's/^#define TZELMARUF_VERSION "\(.*\)"$/\1/p' host/tzelmaruf.h)
 IFS=. read -r major minor patch <<< "$release"
 is 'TZELMARUF_VERSION_NUMBER' $((10000 * major + 100 * minor + patch)) "$(sed -n 's/^#define TZELMARUF_VERSION_NUMBER //p' host/tzelmaruf.h)"
 
+# the exit statuses: those that ./run gives its verdicts, those that its help and check's help name, and those in README.md
+sed -nE 's/^  (EMPTY|REFUSED|REACHED)\) exit ([0-9]) ;;/\1 \2/p' run | sort > "$room/a"
+sed -nE 's/^\| `(EMPTY|REFUSED|REACHED) .* \| ([0-9]) \|$/\1 \2/p' README.md | sort > "$room/b"
+same 'exit statuses of run (<) and of README.md (>)'
+for help in run host/check.c; do
+  sed -nE 's/^ *"?  ([0-9])   (EMPTY|REFUSED|REACHED).*/\2 \1/p' $help | sort > "$room/b"
+  same "exit statuses of run (<) and of the help in $help (>)"
+done
+
 # ---- examples: what README.md says they print
 for folder in examples/*/; do
   echo "${folder%/} $(cat "$folder/expected")"
