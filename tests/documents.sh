@@ -142,12 +142,14 @@ signs() {
     n=$((n + 1))
   done
 }
-sed -n 's/^The comparisons: \([^.]*\)\..*/\1/p' docs/FORMAT.md | sed 's/, /\n/g' > "$room/a"
-sed -n '/^answers =/,/^$/p' crates/automata/specs/Comparison.antt | grep -oE '(true|false) ∷ (true|false) ∷ (true|false)' | sed 's/ ∷//g' | signs > "$room/b"
+tr '\n' ' ' < docs/FORMAT.md | sed -n 's/.*The comparisons: \([^.]*\)\..*/\1/p' | sed 's/, /\n/g; s/$/\n/' | sed '/^$/d' > "$room/a"
+sed -n '/^answers =/,/^$/p' crates/automata/specs/Comparison.antt | grep -oE '(true|false) ∷ (true|false) ∷ (true|false)' | sed 's/ ∷//g' |
+  signs > "$room/b"
 same 'comparisons of docs/FORMAT.md (<) and of Comparison.antt (>)'
 sed -n '/^const ANSWERS/,/^]/p' crates/regions/src/comparison.rt | grep -oE '(true|false), (true|false), (true|false)' | sed 's/,//g' | signs > "$room/b"
 same 'comparisons of docs/FORMAT.md (<) and of comparison.rt (>)'
-is 'numbers of comparisons in docs/FORMAT.md' "0 to $(($(wc -l < "$room/a") - 1))" "$(sed -nE 's/^\| [12] \| (0 to [0-9]+) \|.*/\1/p' docs/FORMAT.md | sort -u)"
+is 'numbers of comparisons in docs/FORMAT.md' "0 to $(($(wc -l < "$room/a") - 1))" \
+  "$(sed -nE 's/^\| [12] \| (0 to [0-9]+) \|.*/\1/p' docs/FORMAT.md | sort -u)"
 
 # the hex: the table, then the paper; and the command that makes files of it, on the lines as they stand, without their margin, and with a deeper one
 blocks() { awk '/^    [0-9A-F][0-9A-F] / { if (!is_in) n++; is_in = 1; if (n == wanted) print; next } { is_in = 0 }' wanted="$1" docs/FORMAT.md; }
@@ -187,7 +189,10 @@ is_function() {
 }
 # the column 'theorem', whatever else is said in its title
 theorems() {
-  awk -F ' *[|] *' '!/^\|/ { column = 0; next } !column { for (i = 2; i < NF; i++) if ($i ~ /^theorem/) column = i; if (!column) column = -1; next } column > 0 { print $column }' docs/THEOREMS.md
+  awk -F ' *[|] *' '
+    !/^\|/ { column = 0; next }
+    !column { column = -1; for (i = 2; i < NF; i++) if ($i ~ /^theorem/) column = i; next }
+    column > 0 { print $column }' docs/THEOREMS.md
 }
 while IFS= read -r name; do
   case $name in */*) continue ;; esac
@@ -219,15 +224,18 @@ done | sort > "$room/b"
 same 'edits named in docs/THEOREMS.md (<) and those that are there (>)'
 
 # ---- docs/PROMISE.md: the axioms that the program's proof rests on, as rt reports them, and that the library rests on none
-axioms() { sed -nE 's/^axioms [a-z]+: (.*) \([0-9]+ of the .*/\1/p' "$1" | sed 's/, /\n/g'; }
+axioms() { sed -nE 's/^axioms [a-z0-9_]+: (.*) \([0-9]+ of the .*/\1/p' "$1" | sed 's/, /\n/g'; }
 for crate in tzelmaruf checker; do
   report=target/log/$crate.say
-  if ! grep -q '^logic=proved' "$report" 2> /dev/null; then bad "there is no $report of a proof: build with 'rt check tzelmaruf' and 'rt staticlib checker'"; continue; fi
+  if ! grep -q '^logic=proved' "$report" 2> /dev/null; then
+    bad "there is no $report of a proof: build with 'rt check tzelmaruf' and 'rt staticlib checker'"
+    continue
+  fi
   count=$(sed -nE 's/^logic=proved .* axioms=([0-9]+).*/\1/p' "$report")
   is "axioms named in $report" "${count:-0}" "$(axioms "$report" | wc -l)"
 done
 axioms target/log/tzelmaruf.say | sort > "$room/a"
-awk '/^- / { is_in = /^- \*\*The axioms\*\*/ } is_in' docs/PROMISE.md | backquoted | grep -E '^[a-z_]+(::[a-z_]+)+$' | sort > "$room/b"
+awk '/^- / { is_in = /^- \*\*The axioms\*\*/ } is_in' docs/PROMISE.md | backquoted | grep -E '^[a-z0-9_]+(::[a-z0-9_]+)+$' | sort > "$room/b"
 same "axioms of the program (<) and of docs/PROMISE.md (>)"
 is 'axioms of the library' '' "$(axioms target/log/checker.say)"
 

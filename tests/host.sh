@@ -174,8 +174,9 @@ is 'files installed' './bin/tzelmaruf-check ./include/tzelmaruf.h ./lib/libtzelm
 is 'the program installed' 'ADMITTED: 6 records' "$("$prefix/bin/tzelmaruf-check" examples/empty/table.tab)"
 sed -n '/^    #include "tzelmaruf.h"/,/^    }/s/^    //p' README.md > "$room/admit.c"
 if command -v pkg-config > /dev/null; then
-  installed=$(PKG_CONFIG_PATH=$prefix/lib/pkgconfig pkg-config --cflags --libs tzelmaruf)
-  is 'the release that pkg-config names' "$("$prefix/bin/tzelmaruf-check" --version)" "tzelmaruf $(PKG_CONFIG_PATH=$prefix/lib/pkgconfig pkg-config --modversion tzelmaruf)"
+  export PKG_CONFIG_PATH=$prefix/lib/pkgconfig
+  installed=$(pkg-config --cflags --libs tzelmaruf)
+  is 'the release that pkg-config names' "$("$prefix/bin/tzelmaruf-check" --version)" "tzelmaruf $(pkg-config --modversion tzelmaruf)"
 else
   installed="-I$prefix/include -L$prefix/lib -ltzelmaruf"
 fi
