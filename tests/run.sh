@@ -185,6 +185,7 @@ case $(cat "$stub/way") in
   nothing) echo 'rt: ok, 1 crates proved'; exit 0 ;;
   other) put "$stub/other"; echo 'rt: ok, 1 crates proved'; exit 0 ;;
   edits) put "$stub/program"; echo '// more' >> crates/tables/src/lib.rt; echo 'rt: ok, 1 crates proved'; exit 0 ;;
+  full) echo 'rattle: cannot write the rlib: No space left on device (os error 28)'; echo 'rt: FAILED: tzelmaruf'; exit 2 ;;
   slow) sleep 1 ;;
 esac
 if [ "$(cat target/stamp/tzelmaruf 2> /dev/null)" = "$now" ]; then
@@ -213,6 +214,8 @@ prints() { printf '#!/bin/sh\nprintf "%s"\n' "$1"; }
 run 'no rt, nothing built' 2 '' "no command 'rt'" without_rt
 run 'rt fails at once' 2 '' 'rt has refused' with_rt fails
 gone 'rt fails at once'
+run 'no space for the build' 2 '' 'No space left on device), and the program has to be built' with_rt full
+gone 'no space for the build'
 run 'rt says ok and leaves no program' 2 '' 'rt has left no program' with_rt nothing
 run 'rt builds' 0 'EMPTY 8' 'proving and building' with_rt good
 has 'rt builds' 'rt: tzelmaruf proved (1 s)'
