@@ -67,3 +67,7 @@ FirstAfter T row =
     (r r′ : Row) → row ≡ row-bytes r → RowOf T r → wait (T .bounds) r ≡ some r′ → (D : ℕ) (v : List ℕ) → Contains (T .bounds) D v r
     → ((t : ℕ) × Contains (T .bounds) (2 * D) (later t (scaled 2 v)) r′)
     × ((t : ℕ) → Contains (T .bounds) D (later t v) r ⊎ ((t′ : ℕ) × (t′ ≤ 2 * t) × Contains (T .bounds) (2 * D) (later t′ (scaled 2 v)) r′))
+
+-- where waiting leads nowhere: from every point of the row's region all later points are in it, so there is no region after it
+abbrev pub Stays : Table → List ℕ → Type 0
+Stays T row = (r : Row) → row ≡ row-bytes r → RowOf T r → (D : ℕ) (v : List ℕ) → Contains (T .bounds) D v r → (t : ℕ) → Contains (T .bounds) D (later t v) r

@@ -8,7 +8,7 @@ ghost use Rattle.table_files.specs.Admission.{table-of};
 ghost use Rattle.calls.specs.RegionFile.{row-width, rows-bytes};
 ghost use Rattle.calls.specs.Follow.{follow-answer, follow-buffer};
 ghost use Rattle.calls.specs.Meaning.{Written};
-ghost use Rattle.following.specs.Following.{answer-of, Stands, Leaves, rows-waited, rows-led, fits, told, put, FirstAfter};
+ghost use Rattle.following.specs.Following.{answer-of, Stands, Leaves, rows-waited, rows-led, fits, told, put, FirstAfter, Stays};
 use edge_walk::walk::next_region;
 use regions::edge::Edge;
 use regions::region::Clocks;
@@ -127,6 +127,7 @@ pub fn follow(table: &[u8], row: &[u8], number: u16, buffer: &mut [u8]) -> Follo
     ensures buffer { λ r. ⌜ now (buffer .exit) ≡ follow-buffer (now (table .entry)) (now (row .entry)) number (now (buffer .entry)) ⌝ }
     ensures written { λ r. ⌜ ((k : ℕ) → answer-of r ≡ accepted k → Written (table-of (now (table .entry))) (now (row .entry)) number (now (buffer .entry)) (now (buffer .exit)) k) ⌝ }
     ensures first { λ r. ⌜ ((k : ℕ) → answer-of r ≡ accepted k → number ≡ 65535 → FirstAfter (table-of (now (table .entry))) (now (row .entry))) ⌝ }
+    ensures last { λ r. ⌜ (answer-of r ≡ accepted 0 → number ≡ 65535 → Stays (table-of (now (table .entry))) (now (row .entry))) ⌝ }
 {
     let opened = open(table);
     if opened.number != 0 {

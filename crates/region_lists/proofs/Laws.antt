@@ -7,7 +7,8 @@ pub mod ListOrder
 pub mod NoFurther
 pub mod Agreeing
 pub mod NextRows
-pub mod Stretch
+pub mod Together
+pub mod Falling
 pub mod Ranked
 pub mod Kept
 pub mod RegionCheck

@@ -2,14 +2,14 @@
 -- and in which order they are taken: for the check of region lists. Assumes nothing.
 use Prim.Native.Nat.{ℕ, _+_, _*_, _-_, _≤_, _<_, Ordering·lt, Ordering·gt}
 use mathlib.Core.Path.{_≡_}
-use mathlib.Core.Bool.{Bool, true, cond, not, _&&_, _||_}
+use mathlib.Core.Bool.{Bool, true, false, cond, not, _&&_, _||_}
 use mathlib.Core.List.{List}
 use lib.ListN.{getD}
 use lib.Dec.{eqb, leb, ltb}
 use Rattle.automata.specs.Comparison.{answer}
 use Rattle.automata.specs.Clocks.{at, allb}
 use Rattle.automata.specs.Row.{Row}
-use Rattle.automata.specs.Edge.{Action, keep, constant, clock, idle, Edge}
+use Rattle.automata.specs.Edge.{Action, keep, constant, clock, Update, idle, Edge}
 use Rattle.automata.specs.Successors.{guardsb, edge-rows}
 use Rattle.automata.specs.Checks.{every, has}
 use Rattle.regions.specs.Values.{row-of}
@@ -66,6 +66,23 @@ pub record Inside (c : List ℕ) (rows : List Row) (e : Edge) (r : Row) : Type 0
 abbrev pub Kept : List ℕ → ℕ → List Row → Edge → Sought → Type 0
 Kept c n rows e s = s .found ≡ true → Inside c rows e (row-of n (s .region))
 
+-- an update allows values above a clock's
+unfoldable pub risesb : Update → Bool
+risesb u = by (u .action)
+  where
+    by : Action → Bool
+    by keep = false
+    by (constant k) = false
+    by (clock y up down) = answer (u .comparison) Ordering·gt
+
+-- the update of clock z does not
+abbrev pub falls-at : Edge → ℕ → Bool
+falls-at e z = not (risesb (getD (e .updates) z idle))
+
+-- none of n clocks' does
+unfoldable pub fallsb : ℕ → Edge → Bool
+fallsb n e = allb n (falls-at e)
+
 -- the first m of so many rows are in locations below l, and no other is
 pub record Starts (n : ℕ) (list : List ℕ) (count l m : ℕ) : Type 0 where
   pub within : m ≤ count
@@ -73,7 +90,7 @@ pub record Starts (n : ℕ) (list : List ℕ) (count l m : ℕ) : Type 0 where
   pub others : (i : ℕ) → m ≤ i → i < count → l ≤ listed-row n list i .location
 
 -- of so many rows those from start to before m are in location l, and the next is not
-pub record Stretch (n : ℕ) (list : List ℕ) (count start l m : ℕ) : Type 0 where
+pub record Together (n : ℕ) (list : List ℕ) (count start l m : ℕ) : Type 0 where
   pub from : start ≤ m
   pub within : m ≤ count
   pub all : (i : ℕ) → start ≤ i → i < m → listed-row n list i .location ≡ l

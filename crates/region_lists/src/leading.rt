@@ -15,16 +15,16 @@ ghost use Rattle.calls.specs.RegionFile.{row-width};
 ghost use Rattle.tables.specs.Values.{Describes};
 ghost use Rattle.region_lists.specs.Listed.{listed-rows, Listed};
 ghost use Rattle.region_lists.specs.RegionList.{by-edges, NextListed};
-ghost use Rattle.region_lists.specs.Leading.{Kept, Starts, Stretch, turned};
+ghost use Rattle.region_lists.specs.Leading.{Kept, Starts, Together, turned};
 use crate::inside::leads_inside;
 use crate::listed::Found;
 use crate::listed::find;
 use crate::listed::location_at;
 use crate::listed::row_at;
 use crate::listed::rows_below;
-use crate::reading::falls;
-use crate::reading::leads_no_further;
-use crate::reading::slot;
+use crate::no_further::leads_no_further;
+use crate::slots::falls;
+use crate::slots::slot;
 use regions::edge::Edge;
 use regions::image::is_deterministic;
 use regions::region::Clocks;
@@ -149,7 +149,7 @@ fn rows_end(list: &[u8], n: usize, count: usize, start: usize, location: u8) -> 
     requires { ⌜ n ≤ 4 ⌝ }
     requires { ⌜ 4 + count * row-width n ≤ length (now list) ⌝ }
     requires { ⌜ (start ≤ count) × (count ≤ 4096) ⌝ }
-    ensures { λ r. ⌜ Stretch n (now (list .entry)) count start location r ⌝ }
+    ensures { λ r. ⌜ Together n (now (list .entry)) count start location r ⌝ }
 {
     let mut i = start;
     while i < count {
@@ -184,7 +184,7 @@ fn lacks_by_edge(list: &[u8], clocks: Clocks, count: usize, e: Edge) -> u16
 {
     let n = clocks.count as usize;
     let sole = is_deterministic(clocks, e);
-    let falling = falls(e);
+    let falling = falls(clocks, e);
     let start = rows_before(list, clocks, count, e.source);
     let end = rows_end(list, n, count, start, e.source);
     let mut walked = [missing(); 64];

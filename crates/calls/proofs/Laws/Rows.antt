@@ -72,6 +72,13 @@ row-back n r p q = λ i. record { location = r .location; intervals = js i; rank
         let e : 3 + length (r .ranks) + z ≡ length (0x52 ∷ 0x57 ∷ r .location ∷ r .intervals) + z = omega arith in
         ap (at (row-bytes r)) e ∙ getD-append-add (0x52 ∷ 0x57 ∷ r .location ∷ r .intervals) (r .ranks) z 0))
 
+-- one row has these bytes
+pub row-alone : (T : Table) (r s : Row) → RowOf T r → RowOf T s → row-bytes r ≡ row-bytes s → r ≡ s
+row-alone T r s R S e =
+    sym (row-back (clocks T) r (R .is-row .intervals-length) (R .is-row .ranks-length))
+    ∙ ap (row-in (clocks T)) e
+    ∙ row-back (clocks T) s (S .is-row .intervals-length) (S .is-row .ranks-length)
+
 pub row-record-back : (T : Table) (place : ℕ) (r : Row) (rest : List ℕ) → RowOf T r → row-record T place (row-bytes r ++ rest) ≡ good r rest
 unfolding row-record
 row-record-back T place r rest R =

@@ -4,13 +4,17 @@ use native.Mathlib.Omega.{arith}
 use mathlib.Core.Path.{_≡_, refl, sym, ap, _∙_}
 use mathlib.Core.Bool.{Bool, true, false, _||_}
 use mathlib.Core.Logic.{inl, inr}
-use mathlib.Core.List.{List, [], _∷_}
+use mathlib.Core.Option.{Option, none, some}
+use mathlib.Core.List.{List, [], _∷_, List·Memᴰ·not-nil}
 use lib.ListN.{length, drop, length-drop}
 use lib.Seq.{getD-take}
 use lib.Dec.{ltb, eqb}
 use borrow.Author.Tests.{le-ltb, eq-eqb, ne-eqb}
 use Rattle.automata.specs.Clocks.{at}
 use Rattle.automata.specs.Row.{Row}
+use Rattle.automata.specs.Point.{Contains, later}
+use Rattle.automata.specs.Wait.{wait}
+use Rattle.automata.specs.Closed.{Mem}
 use Rattle.automata.specs.Edge.{Edge}
 use Rattle.automata.specs.Automaton.{Table, clocks, edge}
 use Rattle.automata.specs.Successors.{wait-rows, edge-rows}
@@ -30,9 +34,11 @@ use Rattle.calls.specs.RegionFile.{row-width}
 use Rattle.calls.specs.Follow.{followed, rows-followed, following, follow-answer, written, follow-buffer}
 use Rattle.calls.specs.Meaning.{Small, Written}
 use Rattle.rows.specs.Row.{ReadsRow}
-use Rattle.following.specs.Following.{Stands, Leaves, rows-waited, rows-led, fits, told, put, FirstAfter}
+use Rattle.following.specs.Following.{Stands, Leaves, rows-waited, rows-led, fits, told, put, FirstAfter, Stays}
 use Rattle.rows.specs.declared.row.RowRead.{RowRead}
 use Rattle.rows.proofs.Laws.RowRecords.{reads-good, reads-row, reads-bad}
+use Rattle.calls.proofs.Laws.Index.{waiting-last}
+use Rattle.calls.proofs.Laws.Rows.{row-alone}
 use Rattle.calls.proofs.Laws.Follow.{follow-law}
 use Rattle.calls.proofs.Laws.SmallAnswers.{admission-small}
 use Rattle.calls.proofs.Laws.Claims.{waiting-first}
@@ -58,6 +64,10 @@ unfolding end
 no-bytes-left n p [] h = refl
 no-bytes-left n p (x ∷ file) h = absurd (omega arith)
 
+none-listed : {A P : Type 0} (x : A) (l : List A) → length l ≡ 0 → Mem x l → P
+none-listed x [] e m = absurd (List·Memᴰ·not-nil m)
+none-listed x (y ∷ l) e m = absurd (omega arith)
+
 -- the promises -------------------------------------------------------------------------------------------------------------------
 
 -- what the follower promises of its answer and of the buffer after the call
@@ -66,7 +76,8 @@ Follower table row number buffer answer after =
     (answer ≡ follow-answer table row number buffer)
     × ((after ≡ follow-buffer table row number buffer)
     × (((k : ℕ) → answer ≡ accepted k → Written (table-of table) row number buffer after k)
-    × ((k : ℕ) → answer ≡ accepted k → number ≡ 65535 → FirstAfter (table-of table) row)))
+    × (((k : ℕ) → answer ≡ accepted k → number ≡ 65535 → FirstAfter (table-of table) row)
+    × (answer ≡ accepted 0 → number ≡ 65535 → Stays (table-of table) row))))
 
 module _ (table row : List ℕ) (number : ℕ) (buffer : List ℕ) where
   promised : (answer : Answer) (after : List ℕ) (R : Read (List Row)) → following table row number buffer ≡ R → answer ≡ answered length R → after ≡ written R buffer
@@ -75,12 +86,24 @@ module _ (table row : List ℕ) (number : ℕ) (buffer : List ℕ) where
   promised answer after R e a b =
       let p : answer ≡ follow-answer table row number buffer = a ∙ ap (λ (r : Read (List Row)). answered length r) (sym e) in
       let q : after ≡ follow-buffer table row number buffer = b ∙ ap (λ (r : Read (List Row)). written r buffer) (sym e) in
-      (p, (q, (λ k h. rw q (follow-law table row number buffer k (sym p ∙ h) .1), first p)))
+      (p, (q, (λ k h. rw q (follow-law table row number buffer k (sym p ∙ h) .1), (first p, last p))))
     where
       first : answer ≡ follow-answer table row number buffer → (k : ℕ) → answer ≡ accepted k → number ≡ 65535 → FirstAfter (table-of table) row
       first p k h n r r′ bytes R w =
           let (records, a) = follow-law table row number buffer k (sym p ∙ h) .0 in
           waiting-first (table-of table) (admission-limits table records a) r r′ R (inl (refl, w))
+
+      last : answer ≡ follow-answer table row number buffer → answer ≡ accepted 0 → number ≡ 65535 → Stays (table-of table) row
+      last p h n r bytes R D v c t =
+          let W = follow-law table row number buffer 0 (sym p ∙ h) .1 in
+          let same : r ≡ W .from = row-alone (table-of table) r (W .from) R (W .is-row) (sym bytes ∙ W .bytes) in
+          go W same (wait (table-of table .bounds) r) refl
+        where
+          go : (W : Written (table-of table) row number buffer (follow-buffer table row number buffer) 0) → r ≡ W .from → (o : Option Row)
+              → wait (table-of table .bounds) r ≡ o → Contains (table-of table .bounds) D (later t v) r
+          go W same none e = waiting-last (table-of table) r R e D v c t
+          go W same (some r′) e =
+              none-listed r′ (W .rows) (W .sized) (W .exact r′ .1 (inl (n, ap (wait (table-of table .bounds)) (sym same) ∙ e)))
 
   refusing : (n p : ℕ) → following table row number buffer ≡ bad n p → Follower table row number buffer (refused n p) buffer
   refusing n p e = promised (refused n p) buffer (bad n p) e refl refl

@@ -11,7 +11,7 @@ use Rattle.region_lists.specs.Listed.{listed-rows}
 use Rattle.region_lists.proofs.Laws.Kept.{AllKept, none-kept, all-kept, one-kept}
 use Rattle.region_lists.proofs.Laws.Listed.{row-room, listed-again}
 use Rattle.region_lists.proofs.Laws.NextRows.{next-fails}
-use Rattle.region_lists.proofs.Laws.Stretch.{Turned, turned-nothing, turned-on, turn-within, turned-all}
+use Rattle.region_lists.proofs.Laws.Together.{Turned, turned-nothing, turned-on, turn-within, turned-all}
 use borrow.Author.Needs.{needs}
 use Rattle.region_lists.proofs.leading.lacks_by_edge.Statement.{statement}
 use Rattle.region_lists.proofs.leading.lacks_by_edge.Tie as tie

@@ -1,4 +1,4 @@
-use Rattle.region_lists.proofs.Laws.Stretch.{turned-last, turned-first}
+use Rattle.region_lists.proofs.Laws.Together.{turned-last, turned-first}
 use borrow.Author.Needs.{needs}
 use Rattle.region_lists.proofs.leading.row_at_turn.Statement.{statement}
 use Rattle.region_lists.proofs.leading.row_at_turn.Tie as tie

@@ -1,4 +1,4 @@
-use Rattle.region_lists.proofs.Laws.Stretch.{starts}
+use Rattle.region_lists.proofs.Laws.Together.{starts}
 use denote.Ref.{now}
 use native.Mathlib.Omega.{arith}
 use borrow.Author.Needs.{needs}

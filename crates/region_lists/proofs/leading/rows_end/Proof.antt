@@ -4,7 +4,7 @@ use native.Mathlib.Omega.{arith}
 use mathlib.Core.Path.{_≡_, sym, _∙_}
 use Rattle.region_lists.specs.Listed.{listed-row}
 use Rattle.region_lists.proofs.Laws.Listed.{row-room}
-use Rattle.region_lists.proofs.Laws.Stretch.{one-more}
+use Rattle.region_lists.proofs.Laws.Together.{one-more}
 use borrow.Author.Needs.{needs}
 use Rattle.region_lists.proofs.leading.rows_end.Statement.{statement}
 use Rattle.region_lists.proofs.leading.rows_end.Tie as tie

@@ -1,7 +1,7 @@
 use Rattle.region_lists.proofs.Laws.Agreeing.{no-lower-intervals, no-lower-ranks}
 use borrow.Author.Needs.{needs}
-use Rattle.region_lists.proofs.reading.is_no_lower.Statement.{statement}
-use Rattle.region_lists.proofs.reading.is_no_lower.Tie as tie
+use Rattle.region_lists.proofs.no_further.is_no_lower.Statement.{statement}
+use Rattle.region_lists.proofs.no_further.is_no_lower.Tie as tie
 
 mul-if1 : tie.Need-mul-if1
 mul-if1 c = search needs

@@ -1,7 +1,7 @@
 use native.Mathlib.Omega.{arith}
 use borrow.Author.Needs.{needs}
-use Rattle.region_lists.proofs.reading.allows_no_more.Statement.{statement}
-use Rattle.region_lists.proofs.reading.allows_no_more.Tie as tie
+use Rattle.region_lists.proofs.no_further.allows_no_more.Statement.{statement}
+use Rattle.region_lists.proofs.no_further.allows_no_more.Tie as tie
 
 enum-told : tie.Need-enum-told
 enum-told c = search needs

@@ -19,7 +19,7 @@ use Rattle.regions.proofs.Laws.Values.{length-first}
 use Rattle.automata.proofs.Laws.Checks.{belowb-law}
 use Rattle.region_lists.specs.Listed.{listed-row, listed-rows, Splits}
 use Rattle.region_lists.specs.RegionList.{NextListed}
-use Rattle.region_lists.specs.Leading.{Starts, Stretch, turned}
+use Rattle.region_lists.specs.Leading.{Starts, Together, turned}
 use Rattle.region_lists.proofs.Laws.Listed.{listed-rise}
 use Rattle.region_lists.proofs.Laws.ListedNumbers.{intervals-long, ranks-long}
 use Rattle.region_lists.proofs.Laws.NextRows.{next-all, edge-elsewhere}
@@ -124,7 +124,7 @@ module _ (n : ℕ) (list : List ℕ) (count : ℕ) (c : List ℕ) (e : Edge) (do
       go s h (no q) = T .so-far s (omega arith)
 
   -- an edge leads nowhere from the rows before those of its source, and from those after them
-  module _ (S : Starts n list count (e .source) start) (E : Stretch n list count start (e .source) end) where
+  module _ (S : Starts n list count (e .source) start) (E : Together n list count start (e .source) end) where
     pub turn-within : (t i : ℕ) → t < end - start → i ≡ turned down start end t → (i < count) × (listed-row n list i .location ≡ e .source)
     turn-within t i h d =
         let (a, b) = turned-within down start end t (omega arith) in

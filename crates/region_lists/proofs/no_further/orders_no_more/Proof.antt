@@ -2,8 +2,8 @@ use Rattle.region_lists.proofs.Laws.Agreeing.{orders-above, orders-belo
 use Rattle.regions.specs.Values.{row-of}
 use mathlib.Core.Path.{_∙_}
 use borrow.Author.Needs.{needs}
-use Rattle.region_lists.proofs.reading.orders_no_more.Statement.{statement}
-use Rattle.region_lists.proofs.reading.orders_no_more.Tie as tie
+use Rattle.region_lists.proofs.no_further.orders_no_more.Statement.{statement}
+use Rattle.region_lists.proofs.no_further.orders_no_more.Tie as tie
 
 holds-requires : tie.Need-holds-requires
 holds-requires c κs = search needs

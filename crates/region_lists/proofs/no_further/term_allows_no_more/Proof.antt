@@ -1,8 +1,8 @@
 use Rattle.region_lists.proofs.Laws.Agreeing.{narrows-beyond, narrows-clock}
 use mathlib.Core.Path.{sym, _∙_}
 use borrow.Author.Needs.{needs}
-use Rattle.region_lists.proofs.reading.term_allows_no_more.Statement.{statement}
-use Rattle.region_lists.proofs.reading.term_allows_no_more.Tie as tie
+use Rattle.region_lists.proofs.no_further.term_allows_no_more.Statement.{statement}
+use Rattle.region_lists.proofs.no_further.term_allows_no_more.Tie as tie
 
 mul-are-beyond : tie.Need-mul-are-beyond
 mul-are-beyond c = search needs

@@ -1,7 +1,7 @@
 use Rattle.region_lists.proofs.Laws.Agreeing.{agree-not, agree-ranks}
 use borrow.Author.Needs.{needs}
-use Rattle.region_lists.proofs.reading.agree_in.Statement.{statement}
-use Rattle.region_lists.proofs.reading.agree_in.Tie as tie
+use Rattle.region_lists.proofs.no_further.agree_in.Statement.{statement}
+use Rattle.region_lists.proofs.no_further.agree_in.Tie as tie
 
 mul-if1 : tie.Need-mul-if1
 mul-if1 c = search needs

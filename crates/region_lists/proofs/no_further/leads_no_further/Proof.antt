@@ -6,8 +6,8 @@ use Prim.Native.Nat.{_-_}
 use Rattle.regions.specs.Values.{bounds-of, row-of, edge-of}
 use Rattle.region_lists.proofs.Laws.Agreeing.{narrower-by, update-is, update-bounded, NarrowerTo, narrower-begins, narrower-on, narrower-fails, narrower-all}
 use borrow.Author.Needs.{needs}
-use Rattle.region_lists.proofs.reading.leads_no_further.Statement.{statement}
-use Rattle.region_lists.proofs.reading.leads_no_further.Tie as tie
+use Rattle.region_lists.proofs.no_further.leads_no_further.Statement.{statement}
+use Rattle.region_lists.proofs.no_further.leads_no_further.Tie as tie
 
 abbrev Inv-loop : tie.InvT-loop
 Inv-loop clocks from e region n z₀ z = NarrowerTo (bounds-of clocks) (clocks .count) (edge-of (clocks .count) e) (row-of (clocks .count) from) (row-of (clocks .count) region) z

@@ -1,8 +1,8 @@
 use Rattle.region_lists.proofs.Laws.Agreeing.{beyond-under, beyond-over, beyond-not}
 use mathlib.Core.Path.{sym, _∙_}
 use borrow.Author.Needs.{needs}
-use Rattle.region_lists.proofs.reading.are_beyond.Statement.{statement}
-use Rattle.region_lists.proofs.reading.are_beyond.Tie as tie
+use Rattle.region_lists.proofs.no_further.are_beyond.Statement.{statement}
+use Rattle.region_lists.proofs.no_further.are_beyond.Tie as tie
 
 is-under-requires : tie.Need-is-under-requires
 is-under-requires c κs = search needs

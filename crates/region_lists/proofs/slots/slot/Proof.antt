@@ -1,7 +1,7 @@
 use Prim.Native.Nat.{_-_, _≤_, _<_}
 use borrow.Author.Needs.{needs}
-use Rattle.region_lists.proofs.reading.slot.Statement.{statement}
-use Rattle.region_lists.proofs.reading.slot.Tie as tie
+use Rattle.region_lists.proofs.slots.slot.Statement.{statement}
+use Rattle.region_lists.proofs.slots.slot.Tie as tie
 
 abbrev Inv-loop : tie.InvT-loop
 Inv-loop clocks falling from e mixed₀ z₀ mixed z = (z ≤ 4) × (mixed < 65536)
