@@ -9,6 +9,7 @@ here=$PWD
 program=$here/target/bin/tzelmaruf
 room=$(mktemp -d) && trap 'chmod -R u+rwX "$room"; rm -rf "$room"' EXIT
 passed=0 failed=0
+command -v gcc > /dev/null || { echo "run: no command 'gcc' on the PATH"; echo "0 passed, 1 failed"; exit 1; }
 [ -x "$program" ] || { echo "run: there is no $program: build it with 'rt check tzelmaruf'"; echo "0 passed, 1 failed"; exit 1; }
 
 ok() { passed=$((passed + 1)); }
@@ -120,6 +121,19 @@ run 'a device without end' 1 'REFUSED 7 0' '' quick "$room/device"
 # a file that can be opened and not be read: the first bytes of a process's memory
 ln -sf /proc/self/mem "$room/device/proof.prf"
 run 'a file that cannot be read' 2 '' 'could not be read to its end' quick "$room/device"
+# A bad stick: a read of one of the files fails (failing_read.c), at its first byte, in its middle, and where it has been read whole and its end is asked
+# for. There is no verdict then, and no record; one byte later the failure is never met.
+gcc -O2 -std=c99 -pedantic -Wall -Wextra -Werror -shared -fPIC -o "$room/stick.so" tests/failing_read.c || bad 'tests/failing_read.c does not build'
+# stick FILE BYTE ARGUMENTS..
+stick() { LD_PRELOAD=$room/stick.so STICK_FILE=$1 STICK_BYTE=$2 quick "${@:3}"; }
+for file in table.tab proof.prf; do
+  end=$(wc -c < examples/empty/$file)
+  for byte in 0 1 20 $((end - 1)) "$end"; do
+    run "$file, of which a read fails at byte $byte" 2 '' "run: examples/empty/$file could not be read to its end: no verdict" stick $file "$byte" examples/empty
+  done
+  run "$file, of which a read fails, for a record" 2 '' "could not be read to its end: no verdict" stick $file "$end" --record examples/empty
+  run "$file, of which no read fails" 0 'EMPTY 8' '' stick $file $((end + 1)) examples/empty
+done
 # the longest paper that is accepted: a copy that is cut short would be refused
 mkdir "$room/long" && tests/longest.sh "$room/long"
 run 'the longest run list' 3 'REACHED 2048' 'do not load the library' quick "$room/long"
