@@ -104,6 +104,7 @@ toolchain $(rt version)" '' ./run --version
 mkdir -p "$room/folder/table.tab" "$room/folder/proof.prf"
 run 'folders for files' 1 'REFUSED 1 0' 'is a folder: it counts as empty' quick "$room/folder"
 run 'no files' 1 'REFUSED 1 0' 'there is no file' quick tests
+run 'no paper' 1 'REFUSED 7 0' 'there is no file tests/program/paper-missing/proof.prf: it counts as empty' quick tests/program/paper-missing
 impatient() { TZELMARUF_WAIT=1 quick "$@"; }
 # A pipe, with a writer that comes and one that hangs. Nobody waits for ever: should ./run not open the pipe, its writer would.
 mkfifo "$room/two words/table.tab" && cp examples/empty/proof.prf "$room/two words"
@@ -118,6 +119,10 @@ wait
 run 'a pipe without a writer' 2 '' 'nobody closed the pipe' impatient "$room/two words"
 mkdir "$room/device" && cp examples/empty/table.tab "$room/device" && ln -s /dev/zero "$room/device/proof.prf"
 run 'a device without end' 1 'REFUSED 7 0' '' quick "$room/device"
+# a device that everyone may read and nobody can open: the terminal, where there is none
+ln -sf /dev/tty "$room/device/proof.prf"
+apart() { PATH=$room/bare timeout 60 setsid -w ./run "$@"; }
+run 'a device that cannot be opened' 1 'REFUSED 7 0' 'cannot be opened: it counts as empty' apart "$room/device"
 # a file that can be opened and not be read: the first bytes of a process's memory
 ln -sf /proc/self/mem "$room/device/proof.prf"
 run 'a file that cannot be read' 2 '' 'could not be read to its end' quick "$room/device"
