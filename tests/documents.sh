@@ -240,7 +240,7 @@ same "axioms of the program (<) and of docs/PROMISE.md (>)"
 is 'axioms of the library' '' "$(axioms target/log/checker.say)"
 
 # ---- one word for one thing: the file beside the table is the paper
-for document in README.md docs/FORMAT.md host/tzelmaruf.h host/check.c run; do
+for document in README.md docs/*.md host/tzelmaruf.h host/check.c run; do
   if grep -qiE 'second file|the proof file' "$document"; then bad "$document calls the paper something else"; else ok; fi
 done
 
