@@ -32,6 +32,8 @@ done < <(grep -oE '`(crates|docs|examples|host|tester|tests)/[A-Za-z0-9_./-]+`' 
 sed -nE 's/^([a-z_]+):.*/\1/p' crates.txt | sort > "$room/a"
 sed -n '/^## Layout/,$p' README.md | grep '^| `' | cut -d '|' -f 2 | backquoted | sed -n 's,^crates/,,p' | sort > "$room/b"
 same 'the crates of crates.txt (<) and of the layout in README.md (>)'
+sed -n '/^## Layers/,/^## [^L]/p' docs/ARCHITECTURE.md | grep '^|' | awk -F '|' '{print $(NF - 1)}' | backquoted | sort > "$room/b"
+same 'the crates of crates.txt (<) and of the layers in docs/ARCHITECTURE.md (>)'
 
 # ---- quotes
 # quoted FILE: the block $room/block stands in the file, its lines one after the other, blanks at their ends aside, and ends where the thing ends that
