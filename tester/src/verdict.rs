@@ -4,7 +4,7 @@ use crate::answer::Answer;
 use crate::region_list::check_regions;
 use crate::run::check_run;
 
-/// The lines permitted for a table and a proof file: one, or for refusal 17
+/// The lines permitted for a table and a paper: one, or for refusal 17
 /// one for each place. A file that can't be opened counts as empty.
 pub fn lines(table: &[u8], proof: &[u8]) -> Vec<String> {
     if proof.starts_with(b"RN") {

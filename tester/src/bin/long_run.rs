@@ -85,7 +85,7 @@ impl Outcome {
     fn report(&self, call: Call) {
         println!("{}", self.tally.table(call.with_places()));
         println!(
-            "longest table {} bytes, longest second file {} bytes",
+            "longest table {} bytes, longest paper or row {} bytes",
             self.longest_table, self.longest_second
         );
         let seconds = self.start.elapsed().as_secs();
