@@ -187,7 +187,7 @@ pub admission-prefix : (n : ℕ) → 12747 < n → (file : List ℕ) → admissi
 unfolding admission
 admission-prefix n l file = rw (admitted-prefix n l file)
 
--- the second file ------------------------------------------------------------------------------------------------------------
+-- the paper ------------------------------------------------------------------------------------------------------------------
 
 module _ (T : Table) (few : clocks T ≤ 4) where
   local-step : (place : ℕ) → Local (step-record T place) 24
@@ -236,7 +236,7 @@ module _ (T : Table) (few : clocks T ≤ 4) where
   unfolding rows-followed
   settled-follow number room = settled-then _ _ 11 0 (local-row 0) (λ _ _ _ _. settled-end 9 1 _)
 
--- what the same readings of the second file give with a table
+-- what the same readings of the paper give with a table
 over : {A : Type 0} (table : List ℕ) (R R′ : Table → Read A) → ((T : Table) → clocks T ≤ 4 → R T ≡ R′ T) → carry (admitted table) (λ T _. R T) ≡ carry (admitted table) (λ T _. R′ T)
 unfolding carry
 over {A} table R R′ same-read = go (admitted table) refl

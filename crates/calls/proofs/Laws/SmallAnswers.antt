@@ -133,7 +133,7 @@ tame-admitted =
     let M : Limits T = table-in f T r e .limits in
     tame-then 4097 _ _ (tame-edges 4097 (T .bounds) (1 + T .locations) (T .edges) (omega (arith, M .few-locations, M .few-edges))) (λ _ _ _ _. tame-done 4097 T))
 
--- the second file --------------------------------------------------------------------------------------------------------------
+-- the paper --------------------------------------------------------------------------------------------------------------------
 
 module _ (T : Table) where
   tame-step : (place : ℕ) → place ≤ 4097 → Tame (step-record T place) 4097
