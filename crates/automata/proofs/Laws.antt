@@ -32,6 +32,7 @@ pub mod Leads
 -- lists of rows
 pub mod Rankings
 pub mod Successors
+pub mod Next
 pub mod Checks
 -- tables
 pub mod Finer

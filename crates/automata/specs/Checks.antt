@@ -7,7 +7,7 @@ use Rattle.automata.specs.Row.{Row}
 use Rattle.automata.specs.Automaton.{Table, final}
 use Rattle.automata.specs.Closed.{first-row}
 use Rattle.automata.specs.Rows.{isrowb}
-use Rattle.automata.specs.Successors.{next-rows}
+use Rattle.automata.specs.Next.{next-rows}
 
 -- all pass a test
 abbrev pub every : {A : Type 0} → (A → Bool) → List A → Bool

@@ -3,13 +3,11 @@ use Prim.Native.Nat.{ℕ, _<_}
 use mathlib.Core.Path.{_≡_}
 use mathlib.Core.Bool.{false}
 use mathlib.Core.Logic.{_⊎_}
-use mathlib.Core.Option.{some}
 use mathlib.Core.List.{List, [], _∷_, List·Memᴰ}
 use lib.ListN.{length, replicate}
 use Rattle.automata.specs.Row.{Row, IsRow, Below}
-use Rattle.automata.specs.Wait.{wait}
-use Rattle.automata.specs.Edge.{Leads}
-use Rattle.automata.specs.Automaton.{Table, clocks, edge, final}
+use Rattle.automata.specs.Automaton.{Table, clocks, final}
+use Rattle.automata.specs.Next.{TimeSuccessor, EdgeSuccessor}
 
 -- a is in the list
 abbrev pub Mem : {A : Type 0} → A → List A → Type 0
@@ -37,8 +35,8 @@ pub record Closed (T : Table) (rows : List Row) : Type 0 where
   pub are-rows : (r : Row) → Mem r rows → RowOf T r
   pub starts : Mem (first-row T) rows
   pub not-final : (r : Row) → Mem r rows → final T (r .location) ≡ false
-  pub waits : (r r′ : Row) → Mem r rows → wait (T .bounds) r ≡ some r′ → Mem r′ rows
-  pub leads : (r r′ : Row) (i : ℕ) → Mem r rows → i < length (T .edges) → Leads (T .bounds) (edge T i) r r′ → Mem r′ rows
+  pub waits : (r r′ : Row) → Mem r rows → TimeSuccessor T r r′ → Mem r′ rows
+  pub leads : (r r′ : Row) (i : ℕ) → Mem r rows → i < length (T .edges) → EdgeSuccessor T i r r′ → Mem r′ rows
 
 -- "exactly one holds" (demand 3): one of the two, and not both
 pub record ExactlyOne (A B : Type 0) : Type 0 where

@@ -7,9 +7,10 @@ pub mod Wait
 pub mod Edge
 pub mod Automaton
 pub mod Run
-pub mod Closed
 pub mod Rows
 pub mod Successors
+pub mod Next
+pub mod Closed
 pub mod Checks
 pub mod Meeting
 -- beside that, no part of any promise: how many ranks and rankings there are, which the checks go by

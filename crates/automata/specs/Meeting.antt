@@ -7,7 +7,7 @@ use Rattle.automata.specs.Point.{Contains, later}
 use Rattle.automata.specs.Automaton.{Table}
 use Rattle.automata.specs.Run.{State, Move, Run}
 use Rattle.automata.specs.Closed.{Mem, RowOf, first-row}
-use Rattle.automata.specs.Successors.{next-rows}
+use Rattle.automata.specs.Next.{next-rows}
 
 -- the row is the table's, and contains a point that some run, with a wait after its last step, gets to
 pub record Met (T : Table) (r : Row) : Type 0 where

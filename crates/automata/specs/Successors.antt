@@ -2,7 +2,7 @@
 use Prim.Native.Nat.{ℕ, zero, suc, _+_, _*_, _-_, _%_, compare, Ordering, Ordering·lt, Ordering·eq, Ordering·gt}
 use mathlib.Core.Bool.{Bool, true, cond, not, _&&_, _||_}
 use mathlib.Core.Option.{Option, none, some}
-use mathlib.Core.List.{List, [], _∷_, _++_}
+use mathlib.Core.List.{List, [], _∷_}
 use lib.ListN.{length, getD}
 use lib.Dec.{eqb, leb}
 use Rattle.automata.specs.Comparison.{answer, holds}
@@ -10,8 +10,7 @@ use Rattle.automata.specs.Clocks.{at, allb, greatest}
 use Rattle.automata.specs.Row.{Row}
 use Rattle.automata.specs.Wait.{wait}
 use Rattle.automata.specs.Edge.{Guard, Action, keep, constant, clock, Update, idle, Edge}
-use Rattle.automata.specs.Automaton.{Table}
-use Rattle.automata.specs.Rows.{isrowb, select, gather, rows-at}
+use Rattle.automata.specs.Rows.{isrowb, select, rows-at}
 
 -- "a row .. where its guards hold": each interval against twice the constant
 unfoldable pub guardsb : Row → List Guard → Bool
@@ -99,7 +98,3 @@ wait-rows c r = held (wait c r)
 -- "all edge rows": the rows that the edge leads to, ascending
 unfoldable pub edge-rows : List ℕ → Edge → Row → List Row
 edge-rows c e r = select (leadsb c e r) (rows-at c (e .target))
-
--- "the wait row and all edge rows" of a row
-unfoldable pub next-rows : Table → Row → List Row
-next-rows T r = wait-rows (T .bounds) r ++ gather (λ (e : Edge). edge-rows (T .bounds) e r) (T .edges)

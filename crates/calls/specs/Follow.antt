@@ -5,8 +5,8 @@ use mathlib.Core.List.{List, _++_}
 use lib.ListN.{length, drop}
 use lib.Dec.{leb, ltb, eqb}
 use Rattle.automata.specs.Row.{Row}
-use Rattle.automata.specs.Automaton.{Table, edge}
-use Rattle.automata.specs.Successors.{wait-rows, edge-rows}
+use Rattle.automata.specs.Automaton.{Table}
+use Rattle.automata.specs.Next.{time-successors, edge-successors}
 use Rattle.table_files.specs.Answer.{Answer}
 use Rattle.table_files.specs.Reading.{Read, good, bad, Reader, _>>=_, _>>_, carry, done, require, end, answered}
 use Rattle.table_files.specs.Admission.{admitted}
@@ -14,7 +14,7 @@ use Rattle.calls.specs.RegionFile.{row-record, rows-bytes}
 
 -- "an edge number or 65,535 for waiting"
 unfoldable pub followed : Table → ℕ → Row → List Row
-followed T number r = cond (eqb number 65535) (wait-rows (T .bounds) r) (edge-rows (T .bounds) (edge T number) r)
+followed T number r = cond (eqb number 65535) (time-successors T r) (edge-successors T number r)
 
 -- "a row to follow is record 0"; 7 to 9, then "The number to follow is neither an edge nor 65,535 (place 0)" and "The buffer is too short for
 -- all next rows (place 0)", for a buffer of so many bytes

@@ -3,15 +3,13 @@ use Prim.Native.Nat.{ℕ, suc, _≤_, _<_}
 use mathlib.Core.Path.{_≡_}
 use mathlib.Core.Bool.{true}
 use mathlib.Core.Logic.{_⊎_, _↔_}
-use mathlib.Core.Option.{some}
 use mathlib.Core.List.{List, _++_}
 use lib.ListN.{length, drop, getD}
 use Rattle.automata.specs.Clocks.{at}
 use Rattle.automata.specs.Row.{Row}
-use Rattle.automata.specs.Wait.{wait}
-use Rattle.automata.specs.Edge.{Leads}
-use Rattle.automata.specs.Automaton.{Table, edge, final}
+use Rattle.automata.specs.Automaton.{Table, final}
 use Rattle.automata.specs.Run.{State, Move, Run}
+use Rattle.automata.specs.Next.{TimeSuccessor, EdgeSuccessor, Next}
 use Rattle.automata.specs.Closed.{Mem, Ascends, RowOf, Closed}
 use Rattle.table_files.specs.Answer.{Answer, accepted, refused, refusals}
 use Rattle.calls.specs.RunFile.{RunList, run-bytes}
@@ -64,7 +62,7 @@ pub record Lacks (T : Table) (rows : List Row) (place : ℕ) : Type 0 where
   pub row : Row
   pub row-is : (d : Row) → getD rows number d ≡ row
   pub next : Row
-  pub leads : (wait (T .bounds) row ≡ some next) ⊎ ((i : ℕ) × (i < length (T .edges)) × Leads (T .bounds) (edge T i) row next)
+  pub leads : Next T row next
   pub missing : Mem next rows → ⊥
 
 -- following ------------------------------------------------------------------------------------------------------------------
@@ -72,8 +70,8 @@ pub record Lacks (T : Table) (rows : List Row) (place : ℕ) : Type 0 where
 -- by waiting, for 65,535; else by the edge of this number
 abbrev pub Follows : Table → ℕ → Row → Row → Type 0
 Follows T number r r′ =
-    ((number ≡ 65535) × (wait (T .bounds) r ≡ some r′))
-    ⊎ ((number < length (T .edges)) × Leads (T .bounds) (edge T number) r r′)
+    ((number ≡ 65535) × TimeSuccessor T r r′)
+    ⊎ ((number < length (T .edges)) × EdgeSuccessor T number r r′)
 
 -- the row record is that of a row of the table, and the buffer has its next rows, "ascending, none twice, each from the next free byte on;
 -- later bytes stay"

@@ -10,7 +10,7 @@ use Rattle.automata.specs.Row.{Row}
 use Rattle.automata.specs.Automaton.{Table, clocks, final}
 use Rattle.automata.specs.Closed.{Mem, first-row}
 use Rattle.automata.specs.Rows.{gather, isrowb}
-use Rattle.automata.specs.Successors.{next-rows}
+use Rattle.automata.specs.Next.{next-rows}
 use Rattle.automata.specs.Checks.{every, has, belowb}
 use Rattle.table_files.specs.Bytes.{RL, RW, two, two-bytes}
 use Rattle.table_files.specs.Answer.{Answer, accepted, refused}

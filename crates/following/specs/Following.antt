@@ -3,16 +3,15 @@ use Prim.Native.Nat.{ℕ, _*_, _≤_, _<_}
 use mathlib.Core.Path.{_≡_}
 use mathlib.Core.Bool.{Bool, true, false}
 use mathlib.Core.Logic.{_⊎_}
-use mathlib.Core.Option.{some}
 use mathlib.Core.List.{List, _++_}
 use lib.ListN.{length, drop}
 use lib.Dec.{leb}
 use Rattle.automata.specs.Clocks.{at}
 use Rattle.automata.specs.Row.{Row, IsRow}
 use Rattle.automata.specs.Point.{later, scaled, Contains}
-use Rattle.automata.specs.Wait.{wait}
 use Rattle.automata.specs.Edge.{Bounded}
 use Rattle.automata.specs.Automaton.{Table}
+use Rattle.automata.specs.Next.{TimeSuccessor}
 use Rattle.automata.specs.Closed.{RowOf}
 use Rattle.automata.specs.Successors.{wait-rows, edge-rows}
 use Rattle.regions.specs.Values.{Few, bounds-of, row-of, edge-of}
@@ -64,7 +63,7 @@ put false rows buffer = buffer
 -- are told in halves of the unit, since the next region may hold none of the unit's own
 abbrev pub FirstAfter : Table → List ℕ → Type 0
 FirstAfter T row =
-    (r r′ : Row) → row ≡ row-bytes r → RowOf T r → wait (T .bounds) r ≡ some r′ → (D : ℕ) (v : List ℕ) → Contains (T .bounds) D v r
+    (r r′ : Row) → row ≡ row-bytes r → RowOf T r → TimeSuccessor T r r′ → (D : ℕ) (v : List ℕ) → Contains (T .bounds) D v r
     → ((t : ℕ) × Contains (T .bounds) (2 * D) (later t (scaled 2 v)) r′)
     × ((t : ℕ) → Contains (T .bounds) D (later t v) r ⊎ ((t′ : ℕ) × (t′ ≤ 2 * t) × Contains (T .bounds) (2 * D) (later t′ (scaled 2 v)) r′))
 

@@ -5,11 +5,7 @@ use mathlib.Core.Bool.{true, false}
 use mathlib.Core.List.{List}
 use lib.ListN.{length, getD}
 use Rattle.automata.specs.Row.{Row}
-use Rattle.automata.specs.Edge.{Edge}
-use Rattle.automata.specs.Automaton.{Table}
 use Rattle.automata.specs.Closed.{Mem}
-use Rattle.automata.specs.Rows.{gather}
-use Rattle.automata.specs.Successors.{edge-rows}
 use Rattle.automata.specs.Checks.{every, has}
 use Rattle.table_files.specs.Reading.{Read, good, bad, Reader, done}
 
@@ -22,10 +18,6 @@ Told (bad n p) number place = (0 < n) × (number ≡ n) × (place ≡ p)
 abbrev pub passed : ℕ → ℕ → Reader (Unit {0})
 passed number zero = done tt
 passed number (suc place) = λ file. bad number (suc place)
-
--- the rows that the edges of a table lead to from a row
-abbrev pub by-edges : Table → Row → List Row
-by-edges T r = gather (λ (e : Edge). edge-rows (T .bounds) e r) (T .edges)
 
 -- next rows by a rule: place 0 where those of every row are in the list, else the place of some row that lacks one
 abbrev pub NextListed : (Row → List Row) → List Row → ℕ → Type 0

@@ -1,22 +1,18 @@
 -- The test of closed lists says what it tests, so that whether a list is closed is decided. Assumes nothing.
-use Prim.Native.Nat.{ℕ, _<_}
+use Prim.Native.Nat.{ℕ}
 use mathlib.Core.Path.{_≡_, refl, ap}
 use mathlib.Core.Bool.{Bool, true, false, _&&_}
 use mathlib.Core.Logic.{_⊎_, inl, inr}
-use mathlib.Core.Option.{some}
 use mathlib.Core.List.{List, [], _∷_, List·Memᴰ·head, List·Memᴰ·tail, List·Memᴰ·not-nil, List·Memᴰ·cases-cons}
-use lib.ListN.{length}
 use lib.Dec.{eqb, ltb}
 use Rattle.automata.specs.Row.{Row, Before, Below}
-use Rattle.automata.specs.Wait.{wait}
-use Rattle.automata.specs.Edge.{Leads}
-use Rattle.automata.specs.Automaton.{Table, edge, Admitted, final}
+use Rattle.automata.specs.Automaton.{Table, Admitted, final}
 use Rattle.automata.specs.Closed.{Mem, Ascends, first-row, RowOf, Closed}
-use Rattle.automata.specs.Successors.{next-rows}
+use Rattle.automata.specs.Next.{Next, next-rows}
 use Rattle.automata.specs.Checks.{every, any, same, beforeb, same-row, belowb, ascendsb, has, row-ofb, closedb}
 use Rattle.automata.proofs.Laws.Tests.{Says, never, eqb-law, ltb-law, not-law, and-law, or-law, says}
 use Rattle.automata.proofs.Laws.Rows.{isrowb-law}
-use Rattle.automata.proofs.Laws.Successors.{next-rows-law}
+use Rattle.automata.proofs.Laws.Next.{next-rows-law}
 
 module _ {A : Type 0} {P : A → Type 0} (p : A → Bool) (law : (a : A) → Says (p a) (P a)) where
   pub every-law : (xs : List A) → Says (every p xs) ((a : A) → Mem a xs → P a)
@@ -101,7 +97,7 @@ module _ (T : Table) (admitted : Admitted T) (rows : List Row) where
   follows : Closed T rows → Follows
   follows k r m r′ n = go (next-rows-law T admitted r r′ (k .are-rows r m) .0 n)
     where
-      go : (wait (T .bounds) r ≡ some r′) ⊎ ((i : ℕ) × (i < length (T .edges)) × Leads (T .bounds) (edge T i) r r′) → Mem r′ rows
+      go : Next T r r′ → Mem r′ rows
       go (inl e) = k .waits r r′ m e
       go (inr (i, h, l)) = k .leads r r′ i m h l
 

@@ -4,19 +4,16 @@ use native.Mathlib.Omega.{arith}
 use mathlib.Core.Path.{_≡_, refl, sym, _∙_}
 use mathlib.Core.Bool.{true, false}
 use mathlib.Core.Logic.{_⊎_, inl, inr}
-use mathlib.Core.Option.{some}
 use mathlib.Core.List.{List, [], _∷_, _++_, map}
 use lib.ListN.{length}
 use Rattle.automata.specs.Clocks.{greatest}
 use Rattle.automata.specs.Row.{Row, Below}
 use Rattle.automata.specs.Point.{later, scaled}
-use Rattle.automata.specs.Wait.{wait}
-use Rattle.automata.specs.Edge.{Leads}
 use Rattle.automata.specs.Automaton.{Table, edge, final, Admitted}
 use Rattle.automata.specs.Run.{Move, first, after, Step, begin, move, scaled-state, scaled-move, Reached}
 use Rattle.automata.specs.Closed.{Mem, first-row, RowOf, Closed, ExactlyOne}
 use Rattle.automata.specs.Rows.{from, select, gather, rows-at}
-use Rattle.automata.specs.Successors.{next-rows}
+use Rattle.automata.specs.Next.{TimeSuccessor, EdgeSuccessor, Next, next-rows}
 use Rattle.automata.specs.Checks.{has}
 use Rattle.automata.specs.Meeting.{Met, origin, further, Successive}
 use Rattle.automata.proofs.Laws.Tests.{true-or-false, either}
@@ -26,7 +23,7 @@ use Rattle.automata.proofs.Laws.Time.{progress}
 use Rattle.automata.proofs.Laws.Members.{gather-in, select-in, select-out, from-in, Sorted, sorted-from, sorted-select, sorted-gather, sorted-ascends}
 use Rattle.automata.proofs.Laws.Rows.{rows-at-in, rows-at-out, rows-at-sorted}
 use Rattle.automata.proofs.Laws.Leads.{from-any-point}
-use Rattle.automata.proofs.Laws.Successors.{wait-keeps, edge-keeps, Next, next-rows-law}
+use Rattle.automata.proofs.Laws.Next.{wait-keeps, edge-keeps, next-rows-law}
 use Rattle.automata.proofs.Laws.Checks.{has-law}
 use Rattle.automata.proofs.Laws.Finer.{run-scaled}
 use Rattle.automata.proofs.Laws.Start.{zero-is-row, zero-contains}
@@ -61,31 +58,31 @@ module _ (T : Table) (admitted : Admitted T) where
     holds = rw later-zero (zero-contains (T .bounds) (T .initial) 1 (omega arith));
   }
 
-  met-wait : (r r′ : Row) → Met T r → wait (T .bounds) r ≡ some r′ → Met T r′
+  met-wait : (r r′ : Row) → Met T r → TimeSuccessor T r r′ → Met T r′
   met-wait r r′ g e =
       let k : ℕ = 2 in
       let p : 0 < k = omega arith in
-      let (t, h) = progress (T .bounds) (g .D) (later (g .delay) (g .state .values)) r r′ (g .row-of .is-row) (g .holds) e in
+      let (t, h) = progress (T .bounds) (g .D) (later (g .delay) (g .state .values)) r r′ (g .row-of .is-row) (g .holds) (e .waits) in
       record {
         row-of = wait-keeps T r r′ (g .row-of) e;
         D = k * g .D;
         moves = map (scaled-move k) (g .moves);
         state = scaled-state k (g .state);
         run = run-scaled k p (g .run);
-        located = wait-location (T .bounds) r r′ (g .row-of .is-row) e ∙ g .located;
+        located = wait-location (T .bounds) r r′ (g .row-of .is-row) (e .waits) ∙ g .located;
         delay = k * g .delay + t;
         holds = rw (scaled-later k (g .delay) (g .state .values), later-later t (k * g .delay) (scaled k (g .state .values))) at h;
       }
 
-  met-edge : (r r′ : Row) (n : ℕ) → n < length (T .edges) → Met T r → Leads (T .bounds) (edge T n) r r′ → Met T r′
+  met-edge : (r r′ : Row) (n : ℕ) → n < length (T .edges) → Met T r → EdgeSuccessor T n r r′ → Met T r′
   met-edge r r′ n b g d =
       let k : ℕ = greatest (r′ .ranks) + 2 in
       let p : 0 < k = omega arith in
-      let (v, h, gu, al) = from-any-point (T .bounds) (edge T n) r r′ (g .row-of .is-row) (admitted .bounded n b) d (g .D) (later (g .delay) (g .state .values)) (g .holds) k (omega arith) (omega arith) in
+      let (v, h, gu, al) = from-any-point (T .bounds) (edge T n) r r′ (g .row-of .is-row) (admitted .bounded n b) (d .leads) (g .D) (later (g .delay) (g .state .values)) (g .holds) k (omega arith) (omega arith) in
       let m : Move = record { number = n; delay = k * g .delay; values = v } in
       let st : Step T (k * g .D) (scaled-state k (g .state)) m = record {
         number-in = b;
-        leaves = sym (g .located) ∙ d .leaves;
+        leaves = sym (g .located) ∙ d .leads .leaves;
         sized = h .sized;
         guarded = rw (scaled-later k (g .delay) (g .state .values)) at gu;
         allowed = rw (scaled-later k (g .delay) (g .state .values)) at al;
@@ -96,7 +93,7 @@ module _ (T : Table) (admitted : Admitted T) where
         moves = map (scaled-move k) (g .moves) ++ (m ∷ []);
         state = after T m;
         run = move m (run-scaled k p (g .run)) st;
-        located = d .enters;
+        located = d .leads .enters;
         delay = 0;
         holds = rw later-zero h;
       }

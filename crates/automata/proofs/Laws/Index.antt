@@ -15,7 +15,8 @@ use Rattle.automata.specs.Edge.{Guard, Guarded, GuardsIn, Edge, Allowed,
 use Rattle.automata.specs.Automaton.{Table, edge, Admitted}
 use Rattle.automata.specs.Run.{State, Move, Run, scaled-state, scaled-move, Reached}
 use Rattle.automata.specs.Closed.{Mem, Ascends, RowOf, Closed, ExactlyOne}
-use Rattle.automata.specs.Successors.{guardsb, leadsb, wait-rows, edge-rows, next-rows}
+use Rattle.automata.specs.Successors.{guardsb, leadsb, wait-rows, edge-rows}
+use Rattle.automata.specs.Next.{TimeSuccessor, EdgeSuccessor, Next, time-successors, edge-successors, next-rows}
 use Rattle.automata.specs.Checks.{closedb}
 use Rattle.automata.specs.Meeting.{Met, Successive}
 use Rattle.automata.proofs.Laws.Scale
@@ -27,6 +28,7 @@ use Rattle.automata.proofs.Laws.Exists
 use Rattle.automata.proofs.Laws.Unique
 use Rattle.automata.proofs.Laws.Leads
 use Rattle.automata.proofs.Laws.Successors
+use Rattle.automata.proofs.Laws.Next as Due
 use Rattle.automata.proofs.Laws.Checks
 use Rattle.automata.proofs.Laws.Sound
 use Rattle.automata.proofs.Laws.Complete
@@ -121,7 +123,7 @@ pub from-any-point : (c : List ℕ) (e : Edge) (r r′ : Row) → IsRow c r → 
     → (v′ : List ℕ) × Contains c (k * D) v′ r′ × Guarded (k * D) (scaled k v) (e .guards) × Allowed (k * D) (scaled k v) v′ (e .updates)
 from-any-point = Leads.from-any-point
 
--- next rows, as lists -----------------------------------------------------------------------------------------------------------
+-- rows that waiting and an edge lead to, as lists --------------------------------------------------------------------------------
 
 pub wait-rows-law : (c : List ℕ) (r r′ : Row) → Mem r′ (wait-rows c r) ↔ (wait c r ≡ some r′)
 wait-rows-law = Successors.wait-rows-law
@@ -132,13 +134,36 @@ edge-rows-law = Successors.edge-rows-law
 pub edge-rows-ascend : (c : List ℕ) (e : Edge) (r : Row) → Ascends (edge-rows c e r)
 edge-rows-ascend = Successors.edge-rows-ascend
 
--- the next rows of a table's row are those by a wait or an edge, and are the table's
-pub next-rows-law : (T : Table) → Admitted T → (r r′ : Row) → RowOf T r
-    → Mem r′ (next-rows T r) ↔ ((wait (T .bounds) r ≡ some r′) ⊎ ((i : ℕ) × (i < length (T .edges)) × Leads (T .bounds) (edge T i) r r′))
-next-rows-law = Successors.next-rows-law
+-- next rows of a table's row ----------------------------------------------------------------------------------------------------
 
-pub wait-keeps : (T : Table) (r r′ : Row) → RowOf T r → wait (T .bounds) r ≡ some r′ → RowOf T r′
-wait-keeps = Successors.wait-keeps
+-- by waiting, just those that waiting leads to
+pub time-successor-law : (T : Table) (r r′ : Row) → TimeSuccessor T r r′ ↔ (wait (T .bounds) r ≡ some r′)
+time-successor-law = Due.time-successor-law
 
-pub edge-keeps : (T : Table) → Admitted T → (r r′ : Row) (i : ℕ) → i < length (T .edges) → Leads (T .bounds) (edge T i) r r′ → RowOf T r′
-edge-keeps = Successors.edge-keeps
+-- by an edge, just those that it leads to
+pub edge-successor-law : (T : Table) (i : ℕ) (r r′ : Row) → EdgeSuccessor T i r r′ ↔ Leads (T .bounds) (edge T i) r r′
+edge-successor-law = Due.edge-successor-law
+
+-- the lists hold just those, ascending
+pub time-successors-law : (T : Table) (r r′ : Row) → Mem r′ (time-successors T r) ↔ TimeSuccessor T r r′
+time-successors-law = Due.time-successors-law
+
+pub time-successors-ascend : (T : Table) (r : Row) → Ascends (time-successors T r)
+time-successors-ascend = Due.time-successors-ascend
+
+pub edge-successors-law : (T : Table) → Admitted T → (i : ℕ) → i < length (T .edges) → (r r′ : Row) → IsRow (T .bounds) r
+    → Mem r′ (edge-successors T i r) ↔ EdgeSuccessor T i r r′
+edge-successors-law = Due.edge-successors-law
+
+pub edge-successors-ascend : (T : Table) (i : ℕ) (r : Row) → Ascends (edge-successors T i r)
+edge-successors-ascend = Due.edge-successors-ascend
+
+-- together they are those by a wait or an edge, and are the table's
+pub next-rows-law : (T : Table) → Admitted T → (r r′ : Row) → RowOf T r → Mem r′ (next-rows T r) ↔ Next T r r′
+next-rows-law = Due.next-rows-law
+
+pub wait-keeps : (T : Table) (r r′ : Row) → RowOf T r → TimeSuccessor T r r′ → RowOf T r′
+wait-keeps = Due.wait-keeps
+
+pub edge-keeps : (T : Table) → Admitted T → (r r′ : Row) (i : ℕ) → i < length (T .edges) → EdgeSuccessor T i r r′ → RowOf T r′
+edge-keeps = Due.edge-keeps

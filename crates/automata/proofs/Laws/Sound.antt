@@ -20,7 +20,7 @@ use Rattle.automata.proofs.Laws.Start.{zero-contains}
 module _ (T : Table) (rows : List Row) (closed : Closed T rows) where
   waits-in : {r r′ : Row} → Waits (T .bounds) r r′ → Mem r rows → Mem r′ rows
   waits-in stop m = m
-  waits-in (on {r = r} {s = s} e w) m = waits-in w (closed .waits r s m e)
+  waits-in (on {r = r} {s = s} e w) m = waits-in w (closed .waits r s m (record { waits = e }))
 
   -- a row of the list holds the state
   pub record Held (D : ℕ) (s : State) : Type 0 where
@@ -48,7 +48,7 @@ module _ (T : Table) (rows : List Row) (closed : Closed T rows) where
         guarded = st .guarded;
         allowed = st .allowed;
       } in
-      record { row = r′; listed = closed .leads r r′ (m .number) (waits-in w (h .listed)) (st .number-in) d; located = l; holds = k′ }
+      record { row = r′; listed = closed .leads r r′ (m .number) (waits-in w (h .listed)) (st .number-in) (record { leads = d }); located = l; holds = k′ }
 
   held : (D : ℕ) → 0 < D → {ms : List Move} {s : State} → Run T D ms s → Held D s
   held D p (begin d) = record { row = first-row T; listed = closed .starts; located = refl; holds = zero-contains (T .bounds) (T .initial) D p }

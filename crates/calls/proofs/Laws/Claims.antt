@@ -1,14 +1,17 @@
 -- What the calls claim together, from the laws of regions. Assumes nothing.
 use Prim.Native.Nat.{ℕ, _*_, _≤_}
 use native.Mathlib.Omega.{arith}
-use mathlib.Core.Path.{_≡_}
+use mathlib.Core.Path.{_≡_, refl}
 use mathlib.Core.Logic.{_⊎_, inl, inr}
+use mathlib.Core.Option.{Option, none, some}
 use mathlib.Core.List.{List}
 use lib.ListN.{length}
 use Rattle.automata.specs.Row.{Row}
 use Rattle.automata.specs.Point.{Contains, later, scaled}
+use Rattle.automata.specs.Wait.{wait}
 use Rattle.automata.specs.Automaton.{Table}
 use Rattle.automata.specs.Run.{Reached}
+use Rattle.automata.specs.Next.{TimeSuccessor}
 use Rattle.automata.specs.Closed.{RowOf, Closed, ExactlyOne}
 use Rattle.automata.proofs.Laws.Index
 use Rattle.table_files.specs.Bytes.{AreBytes}
@@ -43,5 +46,15 @@ run-accepts table (k, p) list R = (Moves.run-are-bytes (table-of table) (admissi
 pub waiting-first : (T : Table) → Limits T → (r r′ : Row) → RowOf T r → Follows T 65535 r r′ → (D : ℕ) (v : List ℕ) → Contains (T .bounds) D v r
     → ((t : ℕ) × Contains (T .bounds) (2 * D) (later t (scaled 2 v)) r′)
     × ((t : ℕ) → Contains (T .bounds) D (later t v) r ⊎ ((t′ : ℕ) × (t′ ≤ 2 * t) × Contains (T .bounds) (2 * D) (later t′ (scaled 2 v)) r′))
-waiting-first T M r r′ R (inl (_, w)) D v c = (Index.progress (T .bounds) D v r r′ (R .is-row) c w, Index.first (T .bounds) D v r r′ (R .is-row) c w)
+waiting-first T M r r′ R (inl (_, s)) D v c =
+    let w = Index.time-successor-law T r r′ .0 s in
+    (Index.progress (T .bounds) D v r r′ (R .is-row) c w, Index.first (T .bounds) D v r r′ (R .is-row) c w)
 waiting-first T M r r′ R (inr (l, _)) D v c = absurd (omega (arith, M .few-edges))
+
+pub waiting-last : (T : Table) (r : Row) → RowOf T r → ((r′ : Row) → TimeSuccessor T r r′ → ⊥) → (D : ℕ) (v : List ℕ) → Contains (T .bounds) D v r
+    → (t : ℕ) → Contains (T .bounds) D (later t v) r
+waiting-last T r R nowhere D v c t = go (wait (T .bounds) r) refl
+  where
+    go : (o : Option Row) → wait (T .bounds) r ≡ o → Contains (T .bounds) D (later t v) r
+    go none e = Index.rest (T .bounds) D v r (R .is-row) c e t
+    go (some r′) e = absurd (nowhere r′ (Index.time-successor-law T r r′ .1 e))

@@ -9,12 +9,11 @@ use lib.ListN.{length, drop, length-append, length-drop}
 use lib.Dec.{eqb}
 use borrow.Author.Tests.{eqb-true, leb-true, le-leb}
 use Rattle.automata.specs.Row.{Row}
-use Rattle.automata.specs.Edge.{Leads}
-use Rattle.automata.specs.Automaton.{Table, Admitted, edge}
+use Rattle.automata.specs.Automaton.{Table, Admitted}
 use Rattle.automata.specs.Closed.{Mem, Ascends, RowOf}
-use Rattle.automata.specs.Successors.{wait-rows, edge-rows}
+use Rattle.automata.specs.Next.{EdgeSuccessor, time-successors, edge-successors}
 use Rattle.automata.proofs.Laws.Tests.{never, eqb-law, ltb-law, or-law}
-use Rattle.automata.proofs.Laws.Successors.{wait-rows-law, wait-rows-ascend, edge-rows-law, edge-rows-ascend}
+use Rattle.automata.proofs.Laws.Next.{time-successors-law, time-successors-ascend, edge-successors-law, edge-successors-ascend}
 use Rattle.table_files.specs.Answer.{Answer, accepted, refused}
 use Rattle.table_files.specs.Reading.{Read, good, bad, end, answered}
 use Rattle.table_files.specs.Admission.{table-of}
@@ -38,20 +37,20 @@ module _ (T : Table) (A : Admitted T) (M : Limits T) where
   next-of number r R n = go (eqb number 65535) refl n
     where
       go : (b : Bool) → eqb number 65535 ≡ b → Number T number
-          → Ascends (cond b (wait-rows (T .bounds) r) (edge-rows (T .bounds) (edge T number) r))
-          × ((r′ : Row) → Mem r′ (cond b (wait-rows (T .bounds) r) (edge-rows (T .bounds) (edge T number) r)) ↔ Follows T number r r′)
-      go true e n = (wait-rows-ascend (T .bounds) r, λ r′. (λ m. inl (eqb-true number 65535 e, wait-rows-law (T .bounds) r r′ .0 m), back r′))
+          → Ascends (cond b (time-successors T r) (edge-successors T number r))
+          × ((r′ : Row) → Mem r′ (cond b (time-successors T r) (edge-successors T number r)) ↔ Follows T number r r′)
+      go true e n = (time-successors-ascend T r, λ r′. (λ m. inl (eqb-true number 65535 e, time-successors-law T r r′ .0 m), back r′))
         where
-          back : (r′ : Row) → Follows T number r r′ → Mem r′ (wait-rows (T .bounds) r)
-          back r′ (inl w) = wait-rows-law (T .bounds) r r′ .1 (w .1)
+          back : (r′ : Row) → Follows T number r r′ → Mem r′ (time-successors T r)
+          back r′ (inl w) = time-successors-law T r r′ .1 (w .1)
           back r′ (inr l) = absurd (omega (arith, eqb-true number 65535 e, l .0, M .few-edges))
       go false e (inr x) = let z : true ≡ false = sym (eqb-law number 65535 .1 x) ∙ e in never (sym z)
-      go false e (inl l) = (edge-rows-ascend (T .bounds) (edge T number) r, λ r′. (λ m. inr (l, law r′ .0 m), back r′))
+      go false e (inl l) = (edge-successors-ascend T number r, λ r′. (λ m. inr (l, law r′ .0 m), back r′))
         where
-          law : (r′ : Row) → Mem r′ (edge-rows (T .bounds) (edge T number) r) ↔ Leads (T .bounds) (edge T number) r r′
-          law r′ = edge-rows-law (T .bounds) (edge T number) r r′ (R .is-row) (A .bounded number l)
+          law : (r′ : Row) → Mem r′ (edge-successors T number r) ↔ EdgeSuccessor T number r r′
+          law r′ = edge-successors-law T A number l r r′ (R .is-row)
 
-          back : (r′ : Row) → Follows T number r r′ → Mem r′ (edge-rows (T .bounds) (edge T number) r)
+          back : (r′ : Row) → Follows T number r r′ → Mem r′ (edge-successors T number r)
           back r′ (inl w) = absurd (omega (arith, w .0, M .few-edges))
           back r′ (inr d) = law r′ .1 (d .1)
 

@@ -3,15 +3,13 @@ use Prim.Native.Nat.{ℕ, _*_, _≤_, _<_}
 use Prim.Native.String.{String}
 use mathlib.Core.Path.{_≡_}
 use mathlib.Core.Logic.{_⊎_, _↔_}
-use mathlib.Core.Option.{none}
 use mathlib.Core.List.{List}
 use lib.ListN.{length, take}
 use Rattle.automata.specs.Row.{Row}
 use Rattle.automata.specs.Point.{Contains, later, scaled}
-use Rattle.automata.specs.Wait.{wait}
-use Rattle.automata.proofs.Laws.Index as Regions
 use Rattle.automata.specs.Automaton.{Table, Admitted}
 use Rattle.automata.specs.Run.{Reached}
+use Rattle.automata.specs.Next.{TimeSuccessor}
 use Rattle.automata.specs.Closed.{Mem, RowOf, Closed, ExactlyOne}
 use Rattle.table_files.specs.Bytes.{AreBytes}
 use Rattle.table_files.specs.Answer.{Answer, accepted, refused, packed}
@@ -120,8 +118,9 @@ pub waiting-first : (T : Table) → Limits T → (r r′ : Row) → RowOf T r �
 waiting-first = Claims.waiting-first
 
 -- and where waiting leads nowhere the row is never left
-pub waiting-last : (T : Table) (r : Row) → RowOf T r → wait (T .bounds) r ≡ none → (D : ℕ) (v : List ℕ) → Contains (T .bounds) D v r → (t : ℕ) → Contains (T .bounds) D (later t v) r
-waiting-last T r R e D v c t = Regions.rest (T .bounds) D v r (R .is-row) c e t
+pub waiting-last : (T : Table) (r : Row) → RowOf T r → ((r′ : Row) → TimeSuccessor T r r′ → ⊥) → (D : ℕ) (v : List ℕ) → Contains (T .bounds) D v r
+    → (t : ℕ) → Contains (T .bounds) D (later t v) r
+waiting-last = Claims.waiting-last
 
 -- every row of the table is followed by every edge and by waiting, given room
 pub follow-accepts : (table : List ℕ) → Passes table → (r : Row) → RowOf (table-of table) r → (number : ℕ) → (number < length (table-of table .edges)) ⊎ (number ≡ 65535)

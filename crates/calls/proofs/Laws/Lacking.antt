@@ -9,7 +9,7 @@ use lib.ListN.{length, getD}
 use Rattle.automata.specs.Row.{Row}
 use Rattle.automata.specs.Automaton.{Table}
 use Rattle.automata.specs.Closed.{Mem}
-use Rattle.automata.specs.Successors.{next-rows}
+use Rattle.automata.specs.Next.{next-rows}
 use Rattle.automata.specs.Checks.{every, has}
 use Rattle.automata.proofs.Laws.Tests.{Says, never}
 use Rattle.automata.proofs.Laws.Members.{getD-in, in-getD}

@@ -10,11 +10,11 @@ use borrow.Author.Tests.{not-true}
 use Rattle.automata.specs.Row.{Row}
 use Rattle.automata.specs.Automaton.{Table, Admitted, final}
 use Rattle.automata.specs.Closed.{Mem, first-row, Ascends, RowOf, Closed}
-use Rattle.automata.specs.Successors.{next-rows}
+use Rattle.automata.specs.Next.{Next, next-rows}
 use Rattle.automata.specs.Checks.{has, belowb}
 use Rattle.automata.proofs.Laws.Tests.{fails, refutes}
 use Rattle.automata.proofs.Laws.Members.{getD-in}
-use Rattle.automata.proofs.Laws.Successors.{Next, next-rows-law}
+use Rattle.automata.proofs.Laws.Next.{next-rows-law}
 use Rattle.automata.proofs.Laws.Checks.{belowb-law, has-law}
 use Rattle.table_files.specs.Bytes.{AreBytes}
 use Rattle.table_files.specs.Answer.{Answer, accepted, refused}

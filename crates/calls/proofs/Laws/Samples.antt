@@ -8,6 +8,7 @@ use Rattle.automata.specs.Clocks.{allb, someb}
 use Rattle.automata.specs.Wait.{evenb, entersb, some-evenb, growsb, leave-interval, leave-rank, left, wait}
 use Rattle.automata.specs.Rows.{openb, heldb, clockb, isrowb, gather}
 use Rattle.automata.specs.Successors.{wait-rows}
+use Rattle.automata.specs.Next.{time-successors}
 use Rattle.table_files.specs.Answer.{refused}
 use Rattle.table_files.specs.Reading.{carry, next-bytes, require, end, next-record, records}
 use Rattle.table_files.specs.TableFile.{header, location, edge-record, table-file}
@@ -83,7 +84,7 @@ unfolding
     header location edge-record table-file allb edges-bounded admitted admission
     answer holds step-record run-file steps-taken run-checked run-answer
     openb heldb clockb isrowb someb row-width row-record region-file ascending none-final rows-checked list-outcome
-    evenb some-evenb entersb growsb leave-interval leave-rank left wait wait-rows followed rows-followed following follow-answer
+    evenb some-evenb entersb growsb leave-interval leave-rank left wait wait-rows time-successors followed rows-followed following follow-answer
 samples = record {
   bounds-last = refl;
   bounds-due = refl;

@@ -4,7 +4,6 @@ use native.Mathlib.Omega.{arith}
 use mathlib.Core.Path.{_≡_, refl, sym, ap, _∙_}
 use mathlib.Core.Bool.{Bool, true, false, _||_}
 use mathlib.Core.Logic.{inl, inr}
-use mathlib.Core.Option.{Option, none, some}
 use mathlib.Core.List.{List, [], _∷_, List·Memᴰ·not-nil}
 use lib.ListN.{length, drop, length-drop}
 use lib.Seq.{getD-take}
@@ -12,15 +11,13 @@ use lib.Dec.{ltb, eqb}
 use borrow.Author.Tests.{le-ltb, eq-eqb, ne-eqb}
 use Rattle.automata.specs.Clocks.{at}
 use Rattle.automata.specs.Row.{Row}
-use Rattle.automata.specs.Point.{Contains, later}
-use Rattle.automata.specs.Wait.{wait}
 use Rattle.automata.specs.Closed.{Mem}
-use Rattle.automata.specs.Edge.{Edge}
 use Rattle.automata.specs.Automaton.{Table, clocks, edge}
 use Rattle.automata.specs.Successors.{wait-rows, edge-rows}
 use Rattle.regions.specs.Values.{row-of, edge-of}
 use Rattle.regions.specs.declared.edge.Edge as edge-code
 use Rattle.automata.proofs.Laws.Tests.{eqb-law, ltb-law, or-law}
+use Rattle.automata.proofs.Laws.Next.{time-successors-are, edge-successors-are}
 use Rattle.table_files.specs.Answer.{Answer, accepted, refused}
 use Rattle.table_files.specs.Reading.{Read, good, bad, Reader, carry, require, end, answered}
 use Rattle.table_files.specs.Admission.{admitted, record-count, admission, table-of}
@@ -37,11 +34,10 @@ use Rattle.rows.specs.Row.{ReadsRow}
 use Rattle.following.specs.Following.{Stands, Leaves, rows-waited, rows-led, fits, told, put, FirstAfter, Stays}
 use Rattle.rows.specs.declared.row.RowRead.{RowRead}
 use Rattle.rows.proofs.Laws.RowRecords.{reads-good, reads-row, reads-bad}
-use Rattle.calls.proofs.Laws.Index.{waiting-last}
 use Rattle.calls.proofs.Laws.Rows.{row-alone}
 use Rattle.calls.proofs.Laws.Follow.{follow-law}
 use Rattle.calls.proofs.Laws.SmallAnswers.{admission-small}
-use Rattle.calls.proofs.Laws.Claims.{waiting-first}
+use Rattle.calls.proofs.Laws.Claims.{waiting-first, waiting-last}
 use Rattle.following.proofs.Laws.FollowRows.{Done}
 
 -- reading on, and not ------------------------------------------------------------------------------------------------------------
@@ -97,13 +93,7 @@ module _ (table row : List ℕ) (number : ℕ) (buffer : List ℕ) where
       last p h n r bytes R D v c t =
           let W = follow-law table row number buffer 0 (sym p ∙ h) .1 in
           let same : r ≡ W .from = row-alone (table-of table) r (W .from) R (W .is-row) (sym bytes ∙ W .bytes) in
-          go W same (wait (table-of table .bounds) r) refl
-        where
-          go : (W : Written (table-of table) row number buffer (follow-buffer table row number buffer) 0) → r ≡ W .from → (o : Option Row)
-              → wait (table-of table .bounds) r ≡ o → Contains (table-of table .bounds) D (later t v) r
-          go W same none e = waiting-last (table-of table) r R e D v c t
-          go W same (some r′) e =
-              none-listed r′ (W .rows) (W .sized) (W .exact r′ .1 (inl (n, ap (wait (table-of table .bounds)) (sym same) ∙ e)))
+          waiting-last (table-of table) r R (λ r′ s. none-listed r′ (W .rows) (W .sized) (W .exact r′ .1 (inl (n, rw same at s)))) D v c t
 
   refusing : (n p : ℕ) → following table row number buffer ≡ bad n p → Follower table row number buffer (refused n p) buffer
   refusing n p e = promised (refused n p) buffer (bad n p) e refl refl
@@ -198,7 +188,7 @@ module _ (table row : List ℕ) (number : ℕ) (buffer : List ℕ) where
           unfolding followed
           by-waiting answer after n d =
               let same : rows-waited (head .clocks) (r .region) ≡ followed T number from =
-              rw (eq-eqb number 65535 n) (λ i. wait-rows (D .bounds i) (row-of (D .count i) (r .region))) in
+              rw (eq-eqb number 65535 n) ((λ i. wait-rows (D .bounds i) (row-of (D .count i) (r .region))) ∙ sym (time-successors-are T from)) in
               done-so answer after (or-law _ _ (ltb-law number (length (T .edges))) (eqb-law number 65535) .1 (inr n)) (rw same at d)
 
           module _ (e : edge-code.Edge) (l : number < head .edges) (m : edge-of (head .clocks .count) e ≡ edge T number) where
@@ -210,5 +200,5 @@ module _ (table row : List ℕ) (number : ℕ) (buffer : List ℕ) where
             by-edge answer after d =
                 let not-waiting : number ≡ 65535 → ⊥ = λ n. omega (arith, n, l, D .edges, limits .few-edges) in
                 let same : rows-led (head .clocks) e (r .region) ≡ followed T number from =
-                rw (ne-eqb number 65535 not-waiting) (λ i. edge-rows (D .bounds i) (m i) (row-of (D .count i) (r .region))) in
+                rw (ne-eqb number 65535 not-waiting) ((λ i. edge-rows (D .bounds i) (m i) (row-of (D .count i) (r .region))) ∙ sym (edge-successors-are T number from)) in
                 done-so answer after (or-law _ _ (ltb-law number (length (T .edges))) (eqb-law number 65535) .1 (inl (omega (arith, D .edges)))) (rw same at d)

@@ -15,17 +15,18 @@ use borrow.Author.Tests.{ne-eqb}
 use Rattle.automata.specs.Row.{Row, IsRow}
 use Rattle.automata.specs.Wait.{wait}
 use Rattle.automata.specs.Edge.{Edge, Bounded}
-use Rattle.automata.specs.Automaton.{Table, blank, edge}
+use Rattle.automata.specs.Automaton.{Table, edge}
 use Rattle.automata.specs.Closed.{Mem}
 use Rattle.automata.specs.Rows.{isrowb, rows-at}
 use Rattle.automata.specs.Successors.{guardsb, placedb, leadsb, held, wait-rows, edge-rows}
+use Rattle.automata.specs.Next.{edge-successors, by-edges}
 use Rattle.automata.specs.Checks.{every, has}
 use Rattle.regions.specs.Values.{bounds-of, row-of, region-of, sought, found-of, edge-of}
 use Rattle.regions.specs.declared.edge.Edge as edge-code
 use Rattle.regions.specs.declared.region.Sought.{Sought}
 use Rattle.automata.proofs.Laws.Tests.{never, and-law, fails, refutes}
-use Rattle.automata.proofs.Laws.Members.{gather-in, gather-out, getD-in, in-getD}
 use Rattle.automata.proofs.Laws.Waiting.{wait-row}
+use Rattle.automata.proofs.Laws.Next.{edge-successors-are, by-edges-law}
 use Rattle.automata.proofs.Laws.Checks.{has-law, every-law}
 use Rattle.table_files.specs.Admission.{table-of}
 use Rattle.tables.specs.Values.{Describes}
@@ -33,7 +34,7 @@ use Rattle.table_records.specs.declared.head.Head.{Head}
 use Rattle.table_files.proofs.Laws.Reading.{itself}
 use Rattle.table_files.proofs.Laws.Admission.{admission-admitted}
 use Rattle.region_lists.specs.Listed.{listed-row, listed-rows}
-use Rattle.region_lists.specs.RegionList.{by-edges, NextListed}
+use Rattle.region_lists.specs.RegionList.{NextListed}
 use Rattle.region_lists.specs.Leading.{no-further, Kept}
 use Rattle.region_lists.proofs.Laws.NoFurther.{select-none, none-further}
 use Rattle.region_lists.proofs.Laws.Listed.{listed-length, listed-at, in-listed}
@@ -153,36 +154,35 @@ module _ (T : Table) (rows : List Row) where
   -- the edges before edge k lead into the list
   pub record EdgesTo (k : ℕ) : Type 0 where
     pub within : k ≤ length (T .edges)
-    pub so-far : (j : ℕ) → j < k → NextListed (edge-rows (T .bounds) (edge T j)) rows 0
+    pub so-far : (j : ℕ) → j < k → NextListed (edge-successors T j) rows 0
 
   pub edges-begin : EdgesTo 0
   edges-begin = record { within = omega arith; so-far = λ j h. absurd (omega arith) }
 
   module _ (k : ℕ) (S : EdgesTo k) where
-    pub edges-on : k < length (T .edges) → NextListed (edge-rows (T .bounds) (edge T k)) rows 0 → EdgesTo (k + 1)
+    pub edges-on : k < length (T .edges) → NextListed (edge-successors T k) rows 0 → EdgesTo (k + 1)
     edges-on l b = record { within = omega arith; so-far = λ j h. go j h (ℕ-discrete j k) }
       where
-        go : (j : ℕ) → j < k + 1 → Dec (j ≡ k) → NextListed (edge-rows (T .bounds) (edge T j)) rows 0
+        go : (j : ℕ) → j < k + 1 → Dec (j ≡ k) → NextListed (edge-successors T j) rows 0
         go j h (yes e) = rw e b
         go j h (no e) = S .so-far j (omega arith)
 
     -- an edge that leads out of the list is one of all the edges
-    pub edges-fail : k < length (T .edges) → (place : ℕ) → (place ≡ 0 → ⊥) → NextListed (edge-rows (T .bounds) (edge T k)) rows place → NextListed (by-edges T) rows place
+    pub edges-fail : k < length (T .edges) → (place : ℕ) → (place ≡ 0 → ⊥) → NextListed (edge-successors T k) rows place → NextListed (by-edges T) rows place
     edges-fail l zero z b = absurd (z refl)
     edges-fail l (suc i) z (h, b) = (h, λ d. out (getD rows i d) (b d))
       where
-        out : (r : Row) → every (has rows) (edge-rows (T .bounds) (edge T k) r) ≡ false → every (has rows) (by-edges T r) ≡ false
+        out : (r : Row) → every (has rows) (edge-successors T k r) ≡ false → every (has rows) (by-edges T r) ≡ false
         out r f =
             fails (every (has rows) (by-edges T r)) (all-listed rows (by-edges T r)) (λ inside.
-            refutes (every (has rows) (edge-rows (T .bounds) (edge T k) r)) (all-listed rows (edge-rows (T .bounds) (edge T k) r)) f
-            (λ x m. inside x (gather-in (λ (e : Edge). edge-rows (T .bounds) e r) (getD-in (T .edges) k blank l) m)))
+            refutes (every (has rows) (edge-successors T k r)) (all-listed rows (edge-successors T k r)) f
+            (λ x m. inside x (by-edges-law T r x .1 (k, l, m))))
 
     pub edges-all : length (T .edges) ≤ k → NextListed (by-edges T) rows 0
     edges-all l r m =
         all-listed rows (by-edges T r) .1 (λ x h.
-        let (e, a, b) = gather-out (λ (e : Edge). edge-rows (T .bounds) e r) (T .edges) h in
-        let (j, i, q) = in-getD blank a in
-        all-listed rows (edge-rows (T .bounds) (edge T j) r) .0 (S .so-far j (omega arith) r m) x (rw q b))
+        let (j, i, b) = by-edges-law T r x .0 h in
+        all-listed rows (edge-successors T j r) .0 (S .so-far j (omega arith) r m) x b)
 
 -- the edge that the code reads is the table's
 module _ (table : List ℕ) (head : Head) (D : Describes table head) (k : ℕ) (l : k < head .edges) (e : edge-code.Edge)
@@ -194,5 +194,11 @@ module _ (table : List ℕ) (head : Head) (D : Describes table head) (k : ℕ) (
   edge-bounded = let (records, p) = D .passes in rw (D .bounds, means) (admission-admitted table records p .bounded k edge-there)
 
   pub edge-rule : (rows : List Row) (place : ℕ) → NextListed (edge-rows (bounds-of (head .clocks)) (edge-of (head .clocks .count) e)) rows place
-      → NextListed (edge-rows (table-of table .bounds) (edge (table-of table) k)) rows place
-  edge-rule rows place h = rw (D .bounds, means) at h
+      → NextListed (edge-successors (table-of table) k) rows place
+  edge-rule rows place h = rw rule at h
+    where
+      same : (r : Row) → edge-rows (bounds-of (head .clocks)) (edge-of (head .clocks .count) e) r ≡ edge-successors (table-of table) k r
+      same r = rw (D .bounds, means) (sym (edge-successors-are (table-of table) k r))
+
+      rule : edge-rows (bounds-of (head .clocks)) (edge-of (head .clocks .count) e) ≡ edge-successors (table-of table) k
+      rule i r = same r i

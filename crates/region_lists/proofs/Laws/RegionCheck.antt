@@ -6,17 +6,19 @@ use native.Mathlib.Omega.{arith}
 use mathlib.Core.Path.{_≡_, refl, sym, ap, _∙_}
 use mathlib.Core.Bool.{Bool, true, false}
 use mathlib.Core.Logic.{_⊎_, inl, inr}
-use mathlib.Core.List.{List, [], _∷_, List·Memᴰ·not-nil, List·Memᴰ·append-cases, Memᴰ·append-left, Memᴰ·append-right}
+use mathlib.Core.List.{List, [], _∷_, List·Memᴰ·not-nil}
 use lib.ListN.{length, getD, drop, length-append, length-replicate}
 use lib.Seq.{drop-at}
 use Rattle.automata.specs.Row.{Row}
 use Rattle.automata.specs.Automaton.{Table, clocks}
 use Rattle.automata.specs.Closed.{Mem, Ascends, first-row, RowOf}
-use Rattle.automata.specs.Successors.{wait-rows, next-rows}
+use Rattle.automata.specs.Successors.{wait-rows}
+use Rattle.automata.specs.Next.{time-successors, by-edges, next-rows}
 use Rattle.automata.specs.Checks.{every, has}
 use Rattle.regions.specs.Values.{bounds-of, row-of, region-of}
 use Rattle.regions.specs.declared.region.Region.{Region}
 use Rattle.automata.proofs.Laws.Tests.{fails, refutes}
+use Rattle.automata.proofs.Laws.Next.{time-successors-are, next-rows-parts}
 use Rattle.table_files.specs.Bytes.{RL, two}
 use Rattle.table_files.specs.Answer.{accepted, refused}
 use Rattle.table_files.specs.Reading.{Read, good, carry, require}
@@ -26,7 +28,7 @@ use Rattle.table_records.specs.declared.head.Head.{Head}
 use Rattle.table_files.proofs.Laws.Reading.{parts, tested, took-record}
 use Rattle.calls.specs.RegionFile.{row-width, region-file, rows-read, rows-of, ascending, none-final, rows-checked, lacking, concluded, judged, Permits}
 use Rattle.region_lists.specs.Listed.{listed-row, listed-rows, Listed}
-use Rattle.region_lists.specs.RegionList.{Told, passed, by-edges, NextListed}
+use Rattle.region_lists.specs.RegionList.{Told, passed, NextListed}
 use Rattle.calls.proofs.Laws.Rows.{rows-read-law}
 use Rattle.region_lists.proofs.Laws.Listed.{listed-length, listed-in}
 use Rattle.region_lists.proofs.Laws.ListRecords.{was-good, all-there}
@@ -52,14 +54,6 @@ region-there T list rows rest h =
 
 -- 17: some row lacks a next row by one rule, or none does by either -----------------------------------------------------------------------
 
-waiting-next : (T : Table) (r x : Row) → Mem x (wait-rows (T .bounds) r) → Mem x (next-rows T r)
-unfolding next-rows
-waiting-next T r x m = Memᴰ·append-left (by-edges T r) m
-
-leading-next : (T : Table) (r x : Row) → Mem x (by-edges T r) → Mem x (next-rows T r)
-unfolding next-rows
-leading-next T r x m = Memᴰ·append-right (wait-rows (T .bounds) r) m
-
 module _ (T : Table) (rows : List Row) where
   lacks-one : (next : Row → List Row) → ((r x : Row) → Mem x (next r) → Mem x (next-rows T r)) → (place : ℕ) → (place ≡ 0 → ⊥)
       → NextListed next rows place → Mem place (lacking T rows 1 rows)
@@ -78,12 +72,11 @@ module _ (T : Table) (rows : List Row) where
         ),
       )
 
-  lacks-none : NextListed (wait-rows (T .bounds)) rows 0 → NextListed (by-edges T) rows 0 → lacking T rows 1 rows ≡ []
-  unfolding next-rows
-  lacks-none u v = nothing-lacking T rows (λ r m. full-law T rows r .1 (λ x k. go r m x (List·Memᴰ·append-cases (wait-rows (T .bounds) r) k)))
+  lacks-none : NextListed (time-successors T) rows 0 → NextListed (by-edges T) rows 0 → lacking T rows 1 rows ≡ []
+  lacks-none u v = nothing-lacking T rows (λ r m. full-law T rows r .1 (λ x k. go r m x (next-rows-parts T r x .0 k)))
     where
-      go : (r : Row) → Mem r rows → (x : Row) → Mem x (wait-rows (T .bounds) r) ⊎ Mem x (by-edges T r) → Mem x rows
-      go r m x (inl k) = all-listed rows (wait-rows (T .bounds) r) .0 (u r m) x k
+      go : (r : Row) → Mem r rows → (x : Row) → Mem x (time-successors T r) ⊎ Mem x (by-edges T r) → Mem x rows
+      go r m x (inl k) = all-listed rows (time-successors T r) .0 (u r m) x k
       go r m x (inr k) = all-listed rows (by-edges T r) .0 (v r m) x k
 
 permits-place : (n : ℕ) (places : List ℕ) (place : ℕ) → Mem place places → Permits (concluded n places) (refused 17 place)
@@ -181,15 +174,22 @@ module _ (table list : List ℕ) (head : Head) (count : ℕ) (D : Describes tabl
             refused-17 : (place : ℕ) → Mem place (lacking T rows 1 rows) → Permits (judged T (rows-checked T list)) (refused 17 place)
             refused-17 place m = rw concludes (permits-place (length rows) (lacking T rows 1 rows) place m)
 
+            -- waiting by the clocks' bounds is waiting in the table
+            waits-at : (r : Row) → wait-rows (bounds-of (head .clocks)) r ≡ time-successors T r
+            waits-at r = rw (D .bounds) (sym (time-successors-are T r))
+
+            waits : wait-rows (bounds-of (head .clocks)) ≡ time-successors T
+            waits i r = waits-at r i
+
             pub refused-waiting : (place : ℕ) → (place ≡ 0 → ⊥) → NextListed (wait-rows (bounds-of (head .clocks))) rows place → Permits (judged T (rows-checked T list)) (refused 17 place)
             refused-waiting place h l =
-                refused-17 place (lacks-one T rows (wait-rows (T .bounds)) (waiting-next T) place h (rw (D .bounds) at l))
+                refused-17 place (lacks-one T rows (time-successors T) (λ r x m. next-rows-parts T r x .1 (inl m)) place h (rw waits at l))
 
             pub refused-leading : (place : ℕ) → (place ≡ 0 → ⊥) → NextListed (by-edges T) rows place → Permits (judged T (rows-checked T list)) (refused 17 place)
-            refused-leading place h l = refused-17 place (lacks-one T rows (by-edges T) (leading-next T) place h l)
+            refused-leading place h l = refused-17 place (lacks-one T rows (by-edges T) (λ r x m. next-rows-parts T r x .1 (inr m)) place h l)
 
             pub all-pass : (p q : ℕ) → p ≡ 0 → q ≡ 0 → NextListed (wait-rows (bounds-of (head .clocks))) rows p → NextListed (by-edges T) rows q
                 → Permits (judged T (rows-checked T list)) (accepted count)
             all-pass p q y z u v =
-                let nothing : lacking T rows 1 rows ≡ [] = lacks-none T rows (rw (D .bounds, y) at u) (rw z at v) in
+                let nothing : lacking T rows 1 rows ≡ [] = lacks-none T rows (rw (waits, y) at u) (rw z at v) in
                 rw (concludes, nothing) (ap accepted (sym (listed-length (head .clocks .count) list count)))
