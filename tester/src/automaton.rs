@@ -8,7 +8,7 @@ pub const GREATEST_EDGES: usize = 256;
 pub const GREATEST_BOUND: u8 = 127;
 pub const GREATEST_GUARDS: usize = 8;
 
-/// The five comparisons, in the order of their file numbers.
+/// The six comparisons, in the order of their file numbers.
 #[derive(Clone, Copy, Debug, PartialEq, Eq, Hash)]
 pub enum Comparison {
     Less,
@@ -16,15 +16,17 @@ pub enum Comparison {
     Equal,
     AtLeast,
     Greater,
+    NotEqual,
 }
 
 impl Comparison {
-    pub const ALL: [Comparison; 5] = [
+    pub const ALL: [Comparison; 6] = [
         Comparison::Less,
         Comparison::AtMost,
         Comparison::Equal,
         Comparison::AtLeast,
         Comparison::Greater,
+        Comparison::NotEqual,
     ];
 
     pub fn from_byte(byte: u8) -> Option<Self> {
@@ -43,6 +45,7 @@ impl Comparison {
             Comparison::Equal => ordering == Ordering::Equal,
             Comparison::AtLeast => ordering != Ordering::Less,
             Comparison::Greater => ordering == Ordering::Greater,
+            Comparison::NotEqual => ordering != Ordering::Equal,
         }
     }
 }

@@ -180,7 +180,7 @@ impl Walker<'_> {
         };
         match comparison {
             Comparison::Equal | Comparison::AtMost => term,
-            Comparison::AtLeast | Comparison::Greater => ClockValue {
+            Comparison::AtLeast | Comparison::Greater | Comparison::NotEqual => ClockValue {
                 whole: bound.max(term.whole) + 2,
                 origin: self.now,
             },

@@ -195,8 +195,14 @@ fn mistakes_near_at_hand() {
     // A negative result is not clipped to 0: x = 0, y := x - 1 leads nowhere.
     let minus_one = [Update::Keep, clock(Equal, 0, -1)];
     assert_eq!(next_by_edge(&[2, 1], &minus_one, row(&[0, 0], &[0, 0])), []);
-    // The same for '<' and '≤'; '≥' and '>' allow every value.
-    for (comparison, count) in [(Less, 0), (AtMost, 0), (AtLeast, 4), (Greater, 4)] {
+    // The same for '<' and '≤'; '≥', '>' and '≠' allow every value.
+    for (comparison, count) in [
+        (Less, 0),
+        (AtMost, 0),
+        (AtLeast, 4),
+        (Greater, 4),
+        (NotEqual, 4),
+    ] {
         let updates = [Update::Keep, clock(comparison, 0, -1)];
         let next = next_by_edge(&[2, 1], &updates, row(&[0, 0], &[0, 0]));
         assert_eq!(next.len(), count, "{comparison:?}");

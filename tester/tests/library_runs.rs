@@ -380,6 +380,7 @@ fn great_value(random: &mut Random, update: Update, own: usize, old: &[i64], sca
         Comparison::Equal => term,
         Comparison::AtLeast => random.pick(&[term, greatest, greatest - 1]),
         Comparison::Greater => random.pick(&[term + 1, greatest, greatest - 1]),
+        Comparison::NotEqual => random.pick(&[term - 1, term + 1, greatest]),
     };
     match random.once_in(12) {
         true => (value + random.between(-1, 1)) as u32,

@@ -157,7 +157,7 @@ fn refusal_3_edge_fields() {
         }
     }
     for (place, first) in [(4, 5), (4, 8), (6, 5)] {
-        for (field, value) in [(0, 2), (0, 255), (1, 5), (2, 128), (2, 255)] {
+        for (field, value) in [(0, 2), (0, 255), (1, 6), (2, 128), (2, 255)] {
             assert_changed(&[(place, first + field, value)], 3, place as u16);
         }
     }
@@ -172,12 +172,12 @@ fn refusal_3_updates() {
         [0, 0, 1, 0, 0],
         [0, 0, 0, 1, 0],
         [0, 0, 0, 0, 1],
-        [1, 5, 0, 0, 0],
+        [1, 6, 0, 0, 0],
         [1, 2, 1, 0, 0],
         [1, 2, 0, 0, 128],
         [1, 2, 0, 1, 0],
         [1, 2, 0, 0xFF, 0xFF],
-        [2, 5, 0, 0, 3],
+        [2, 6, 0, 0, 3],
         [2, 2, 2, 0, 3],
         [2, 2, 0, 0, 128],
         [2, 2, 0, 0xFF, 128],
@@ -296,7 +296,7 @@ fn edge_order() {
     cut(b"ED\x00\x01\x02", 1);
     // They are due all together: a bad guard is not met while an update is cut.
     let mut bad_guard = records[4].clone();
-    bad_guard[6] = 5;
+    bad_guard[6] = 6;
     cut(&bad_guard[..bad_guard.len() - 1], 1);
     cut(&bad_guard[..8], 1);
     cut(&bad_guard, 3);

@@ -156,11 +156,13 @@ fn all_updates_of_two_clocks() {
 fn all_comparisons_of_three_open_clocks() {
     let (mut edges, mut rows) = (0, 0);
     let mut automaton = automaton(&[1, 1, 1], &[false], vec![edge(0, 0, &[], &[])]);
-    let updates: Vec<Update> = (0..15)
-        .map(|index| clock(Comparison::ALL[index / 3], index as u8 % 3, 0))
+    let updates: Vec<Update> = Comparison::ALL
+        .into_iter()
+        .flat_map(|comparison| (0..3).map(move |other| clock(comparison, other, 0)))
         .collect();
-    for index in 0..15 * 15 * 15 {
-        let chosen = [index % 15, index / 15 % 15, index / 225];
+    let count = updates.len();
+    for index in 0..count.pow(3) {
+        let chosen = [index % count, index / count % count, index / count.pow(2)];
         automaton.edges[0].updates = chosen.iter().map(|each| updates[*each]).collect();
         for ranks in [[1, 1, 1], [1, 1, 2], [1, 2, 2], [1, 2, 3]] {
             rows += assert_equal_from(&automaton, Region::new(0, &[1, 1, 1], &ranks));

@@ -96,11 +96,17 @@ pub fn allowed_value(
         Comparison::Equal => (term, term),
         Comparison::AtLeast => (term, far),
         Comparison::Greater => (term + 1, far),
+        Comparison::NotEqual => (0, far),
     };
     let least = least.max(0);
     // Four bytes are all a run list has for a value.
     let most = most.min(i64::from(u32::MAX) / 2);
-    (least <= most).then(|| random.between(least, most))
+    if least > most {
+        return None;
+    }
+    let value = random.between(least, most);
+    // Only '≠' leaves out a value between the two ends.
+    Some(value + i64::from(!comparison.holds(value.cmp(&term))))
 }
 
 /// Spoils a run in one field.

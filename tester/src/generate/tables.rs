@@ -102,7 +102,8 @@ fn edge(random: &mut Random, shape: Shape, bounds: &[u8]) -> Edge {
 }
 
 pub fn comparison(random: &mut Random) -> Comparison {
-    random.pick(&Comparison::ALL)
+    // '≠' is left out until the checker takes it.
+    random.pick(&Comparison::ALL[..5])
 }
 
 pub fn guard(random: &mut Random, bounds: &[u8]) -> Guard {

@@ -1,11 +1,13 @@
 //! Next rows of an edge by intervals and the order of fractional parts.
 //!
-//! An update permits a contiguous range of intervals, and within the range it
-//! restricts the fractional part only in the interval its term lies in (the
-//! pivot). There the new part stands below, at or above an old one. The old
-//! parts cut the stretch from 0 to 1 into positions: 0 is the gap below the
-//! first old part, 1 is the first part itself, 2 the gap above it, and so on.
-//! Gaps (even) hold any number of different new parts, an old part (odd) one.
+//! An update permits a contiguous range of intervals, of which '≠' leaves out the
+//! one its term is, if that is a whole value. Within the range it restricts the
+//! fractional part only in the open interval its term lies in (the pivot). There
+//! the new part stands below, at, above or beside an old one. The old parts cut
+//! the stretch from 0 to 1 into positions: 0 is the gap below the first old part,
+//! 1 is the first part itself, 2 the gap above it, and so on. Gaps (even) hold any
+//! number of different new parts, an old part (odd) one. So the permitted
+//! positions are a range too, of which '≠' leaves out an old part, never a gap.
 
 use crate::automaton::{Automaton, Comparison, Edge, Guard, Term, Update, GREATEST_CLOCKS};
 use crate::region::{is_whole, top, Region};
@@ -26,20 +28,53 @@ pub fn is_enabled(edge: &Edge, row: Region) -> bool {
 /// What one update permits.
 #[derive(Clone, Copy, Debug, Default, PartialEq, Eq)]
 pub struct Choice {
-    /// The permitted intervals, both ends included.
-    pub first: u8,
-    pub last: u8,
+    intervals: Span,
     /// The top interval of the clock, where no fractional part counts.
     top: u8,
     /// The open interval in which the term lies, or `NO_PIVOT`.
     pivot: u8,
-    /// At the pivot, the permitted positions, both ends included.
-    low: u8,
-    high: u8,
+    /// At the pivot, the permitted positions.
+    positions: Span,
 }
 
 /// An even number: a pivot is always odd.
 const NO_PIVOT: u8 = 0;
+
+/// The numbers from first to last, both included, but for the hole.
+#[derive(Clone, Copy, Debug, Default, PartialEq, Eq)]
+struct Span {
+    first: u8,
+    last: u8,
+    hole: Option<u8>,
+}
+
+impl Span {
+    /// The numbers from 0 to `last` that stand in the comparison to `middle`, if there are any;
+    /// `middle` itself is one of them only if it is included.
+    fn new(comparison: Comparison, middle: i32, is_included: bool, last: u8) -> Option<Span> {
+        let step = i32::from(!is_included);
+        let first = match comparison.holds(Ordering::Less) {
+            true => 0,
+            false => (middle + step).max(0),
+        };
+        let last = match comparison.holds(Ordering::Greater) {
+            true => i32::from(last),
+            false => middle - step,
+        };
+        let has_hole = !is_included && (first..=last).contains(&middle);
+        (first <= last).then_some(Span {
+            first: first as u8,
+            last: last as u8,
+            hole: has_hole.then_some(middle as u8),
+        })
+    }
+
+    /// The number, or the next one if it is the hole. A hole is never last: behind a whole value
+    /// there is the top, and behind an old part a gap.
+    fn past_hole(&self, number: u8) -> u8 {
+        number + u8::from(self.hole == Some(number))
+    }
+}
 
 impl Choice {
     /// What the update of `own` permits from a row; none if it permits nothing.
@@ -59,29 +94,32 @@ impl Choice {
         // An open interval (the top too) has values on both sides of the term.
         let is_open = interval % 2 != 0;
         let at = comparison.holds(Ordering::Equal);
-        let (first, last) = span(comparison, interval, at || is_open, i32::from(top));
-        if first > last {
-            return None;
-        }
+        let intervals = Span::new(comparison, interval, at || is_open, top)?;
         let is_pinned = is_open && (0..i32::from(top)).contains(&interval);
-        let (pivot, (low, high)) = match is_pinned {
+        let (pivot, positions) = match is_pinned {
             true => {
                 let position = 2 * i32::from(rank) - 1;
-                (
-                    interval,
-                    span(comparison, position, at, last_position.into()),
-                )
+                let positions = Span::new(comparison, position, at, last_position)?;
+                (interval as u8, positions)
             }
-            false => (i32::from(NO_PIVOT), (0, 0)),
+            false => (NO_PIVOT, Span::default()),
         };
         Some(Choice {
-            first: first as u8,
-            last: last as u8,
+            intervals,
             top,
-            pivot: pivot as u8,
-            low: low as u8,
-            high: high as u8,
+            pivot,
+            positions,
         })
+    }
+
+    /// The least permitted interval.
+    fn first(&self) -> u8 {
+        self.intervals.past_hole(self.intervals.first)
+    }
+
+    /// The least permitted interval above a permitted one.
+    fn after(&self, interval: u8) -> Option<u8> {
+        (interval < self.intervals.last).then(|| self.intervals.past_hole(interval + 1))
     }
 
     fn is_open(&self, interval: u8) -> bool {
@@ -91,21 +129,6 @@ impl Choice {
     fn is_pinned(&self, interval: u8) -> bool {
         interval == self.pivot && self.pivot != NO_PIVOT
     }
-}
-
-/// The numbers from 0 to `last` that stand in the comparison to `middle`, as
-/// first and last; `middle` itself is one of them only if it is included.
-fn span(comparison: Comparison, middle: i32, is_included: bool, last: i32) -> (i32, i32) {
-    let step = i32::from(!is_included);
-    let first = match comparison.holds(Ordering::Less) {
-        true => 0,
-        false => (middle + step).max(0),
-    };
-    let last = match comparison.holds(Ordering::Greater) {
-        true => last,
-        false => middle - step,
-    };
-    (first, last)
 }
 
 /// The interval a term lies in, counted on without a top, and its rank.
@@ -154,13 +177,15 @@ impl Choices {
         let mut positions = [0; GREATEST_CLOCKS + 1];
         let mut free = 0;
         for rank in 1..=GREATEST_CLOCKS as u8 {
-            let (mut low, mut high) = (free, self.last_position);
-            for clock in 0..self.clocks {
-                if pinned >> clock & 1 != 0 && Region::rank_in(ranking, clock) == rank {
-                    low = low.max(self.each[clock].low);
-                    high = high.min(self.each[clock].high);
-                }
-            }
+            let spans = || {
+                let of_rank = |clock: &usize| Region::rank_in(ranking, *clock) == rank;
+                let clocks = self.members(pinned).filter(of_rank);
+                clocks.map(|clock| self.each[clock].positions)
+            };
+            let low = spans().fold(free, |low, span| low.max(span.first));
+            let high = spans().fold(self.last_position, |high, span| high.min(span.last));
+            // Behind an old part there is a gap, which no hole takes.
+            let low = low + u8::from(spans().any(|span| span.hole == Some(low)));
             if low > high {
                 return None;
             }
@@ -177,6 +202,8 @@ impl Choices {
     /// two at a time is enough: the least position a rank can take is always
     /// the low end of some clock of that rank or the gap right above the low end
     /// of some clock of a lower one. A clock that is not pinned finds room anywhere.
+    /// A hole asks for one more look: it counts only where a rank has no other
+    /// position, as the gaps on both sides of it serve different ranks as well.
     fn rankings(&self, open: usize, pinned: u8) -> u128 {
         let mut rankings = (1 << RANKINGS.count[open]) - 1;
         // With one pinned clock or none there is nothing to look at.
@@ -190,18 +217,34 @@ impl Choices {
                 }
             }
         }
+        for clock in self.members(pinned) {
+            if let Some(hole) = self.each[clock].positions.hole {
+                rankings &= !self.rankings_in_hole(open, pinned, clock, hole);
+            }
+        }
         rankings
     }
 
+    /// The rankings that leave a clock no position but its hole: level with it is
+    /// one that may not be below the hole, and one that may not be above.
+    fn rankings_in_hole(&self, open: usize, pinned: u8, clock: usize, hole: u8) -> u128 {
+        let level_with = |is_end: fn(&Span, u8) -> bool| {
+            self.members(pinned)
+                .filter(|other| *other != clock && is_end(&self.each[*other].positions, hole))
+                .fold(0, |rankings, other| rankings | level(open, clock, other))
+        };
+        level_with(|span, hole| span.first == hole) & level_with(|span, hole| span.last == hole)
+    }
+
     fn rankings_of_two(&self, open: usize, first: usize, second: usize) -> u128 {
-        let (a, b) = (&self.each[first], &self.each[second]);
+        let (a, b) = (&self.each[first].positions, &self.each[second].positions);
         let [below, level, above] = &RANKINGS.order[open][first][second];
         // Strictly above an old part begins the gap behind it.
         let strictly_above = |low: u8| low + low % 2;
         let if_so = |permitted: bool, rankings: &u128| if permitted { *rankings } else { 0 };
-        if_so(strictly_above(a.low) <= b.high, below)
-            | if_so(a.low <= b.high && b.low <= a.high, level)
-            | if_so(strictly_above(b.low) <= a.high, above)
+        if_so(strictly_above(a.first) <= b.last, below)
+            | if_so(a.first <= b.last && b.first <= a.last, level)
+            | if_so(strictly_above(b.first) <= a.last, above)
     }
 
     /// The clocks whose new interval lies at their pivot, one bit each.
@@ -209,6 +252,11 @@ impl Choices {
         (0..self.clocks)
             .filter(|clock| self.each[*clock].is_pinned(row.interval(*clock)))
             .fold(0, |bits, clock| bits | 1 << clock)
+    }
+
+    /// The clocks of a set given by bits.
+    fn members(&self, set: u8) -> impl Iterator<Item = usize> {
+        (0..self.clocks).filter(move |clock| set >> clock & 1 != 0)
     }
 }
 
@@ -225,6 +273,11 @@ struct Rankings {
 }
 
 static RANKINGS: Rankings = rankings();
+
+/// The rankings of a set that put two of its clocks level.
+fn level(set: usize, one: usize, other: usize) -> u128 {
+    RANKINGS.order[set][one.min(other)][one.max(other)][1]
+}
 
 const fn rankings() -> Rankings {
     let mut all = Rankings {
@@ -304,7 +357,7 @@ impl NextRows {
         };
         if let Some(choices) = &next_rows.choices {
             for clock in 0..choices.clocks {
-                next_rows.intervals[clock] = choices.each[clock].first;
+                next_rows.intervals[clock] = choices.each[clock].first();
             }
             next_rows.settle();
         }
@@ -317,12 +370,12 @@ impl NextRows {
             return false;
         };
         for clock in (0..choices.clocks).rev() {
-            if self.intervals[clock] < choices.each[clock].last {
-                self.intervals[clock] += 1;
+            if let Some(interval) = choices.each[clock].after(self.intervals[clock]) {
+                self.intervals[clock] = interval;
                 self.settle();
                 return true;
             }
-            self.intervals[clock] = choices.each[clock].first;
+            self.intervals[clock] = choices.each[clock].first();
         }
         self.choices = None;
         false

@@ -9,7 +9,9 @@ use tzelmaruf_tester::region::Region;
 use tzelmaruf_tester::successor::NextRows;
 
 pub use tzelmaruf_tester::answer::hex;
-pub use tzelmaruf_tester::automaton::Comparison::{AtLeast, AtMost, Equal, Greater, Less};
+pub use tzelmaruf_tester::automaton::Comparison::{
+    AtLeast, AtMost, Equal, Greater, Less, NotEqual,
+};
 
 pub fn automaton(bounds: &[u8], finals: &[bool], edges: Vec<Edge>) -> Automaton {
     let locations = finals.iter().map(|is_final| Location {
