@@ -1,7 +1,7 @@
 -- The laws of regions, for the crates above: pure mathematics over specs/, in the order in which they rest on each other.
 -- numbers, tests, lists
-pub mod Order
 pub mod Tests
+pub mod Order
 pub mod Lists
 pub mod Members
 pub mod Ordered

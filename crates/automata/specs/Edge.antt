@@ -51,7 +51,7 @@ Guarded D v [] = Unit {0}
 Guarded D v (g ∷ gs) = (holds (g .comparison) (at v (g .clock)) (g .constant * D) ≡ true) × Guarded D v gs
 
 -- "Each new clock value stands in its comparison to the constant, or to the old y plus offset"; a kept clock has its old value.
--- What is taken away stands on the new value's side: "If y plus offset is below 0, '=', '<' and '≤' allow nothing"
+-- What is taken away stands on the new value's side: "If y plus offset is below 0, '=', '<' and '≤' allow nothing", and '≠' then allows every value
 abbrev pub AllowedBy : ℕ → List ℕ → ℕ → ℕ → ℕ → Action → Type 0
 AllowedBy D v z x cmp keep = x ≡ at v z
 AllowedBy D v z x cmp (constant k) = holds cmp x (k * D) ≡ true

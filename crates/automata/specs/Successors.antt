@@ -5,7 +5,7 @@ use mathlib.Core.Option.{Option, none, some}
 use mathlib.Core.List.{List, [], _∷_}
 use lib.ListN.{length, getD}
 use lib.Dec.{eqb, leb}
-use Rattle.automata.specs.Comparison.{answer, holds}
+use Rattle.automata.specs.Comparison.{equal, answer, holds}
 use Rattle.automata.specs.Clocks.{at, allb, greatest}
 use Rattle.automata.specs.Row.{Row}
 use Rattle.automata.specs.Wait.{wait}
@@ -42,7 +42,7 @@ rel c r z j (clock y up down) = rel-clock c r z j y up down
 
 -- to keep is to be equal
 abbrev pub comparison-of : ℕ → Action → ℕ
-comparison-of cmp keep = 2
+comparison-of cmp keep = equal
 comparison-of cmp (constant k) = cmp
 comparison-of cmp (clock y up down) = cmp
 

@@ -24,3 +24,4 @@ pub mod Claims
 pub mod Index
 pub mod Examples
 pub mod Samples
+pub mod NotEqual

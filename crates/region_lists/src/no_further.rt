@@ -3,7 +3,7 @@
 // lies beyond all that the value can be.
 ghost use mathlib.Core.Path.{_≡_};
 ghost use mathlib.Core.Bool.{_&&_};
-ghost use Prim.Native.Nat.{ℕ, _≤_, _<_};
+ghost use Prim.Native.Nat.{_≤_, _<_};
 ghost use lib.ListN.{length};
 ghost use Rattle.automata.specs.Edge.{clock, Bounded, BoundedBy};
 ghost use Rattle.regions.specs.Values.{Few, bounds-of, row-of, action-of, edge-of};
@@ -73,8 +73,8 @@ fn orders_no_more(clocks: Clocks, comparison: u8, y: usize, r: Region, s: Region
     requires { ⌜ y < clocks .count ⌝ }
     ensures { λ b. ⌜ b ≡ ordersb comparison (row-of (clocks .count) r) (row-of (clocks .count) s) y ⌝ }
 {
-    let above = comparison::holds(comparison, 1, 0);
-    let below = comparison::holds(comparison, 0, 1);
+    let above = comparison::allows_above(comparison);
+    let below = comparison::allows_below(comparison);
     if above == below {
         return agree_in(clocks, r, s, y);
     }

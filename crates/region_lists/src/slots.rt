@@ -21,7 +21,7 @@ fn rises(u: Update) -> bool
     match a {
         Action::Keep => false,
         Action::Constant(_) => false,
-        Action::Clock(_, _, _) => comparison::holds(u.comparison, 1, 0),
+        Action::Clock(_, _, _) => comparison::allows_above(u.comparison),
     }
 }
 
@@ -51,7 +51,8 @@ fn joined(interval: u16, rank: u8) -> usize
 
 // The numbers that an update to a clock, with something added and something taken away, asks to be the same: the same ones for all beyond an end of
 // what the clock that it updates can be. Those of the ends are of no region, since the rank in interval 0 is 0, and odd, since slots are a power of
-// two. None, which is 0, where a value from a number up is asked for, or one up to a number by an edge that falls: the order of rows sees to that.
+// two. None, which is 0, where only values from a number up are asked for, or only those up to a number by an edge that falls: the order of rows sees
+// to that. Where both sides are allowed, or neither, the numbers have to be the same.
 fn term_key(
     falling: bool,
     bound: u16,
@@ -63,10 +64,12 @@ fn term_key(
 ) -> usize
     ensures { λ r. ⌜ r ≤ 327930 ⌝ }
 {
-    if 3 <= comparison {
+    let above = comparison::allows_above(comparison);
+    let below = comparison::allows_below(comparison);
+    if above && !below {
         return 0;
     }
-    if falling && comparison <= 1 {
+    if falling && below {
         return 0;
     }
     if is_under(interval, up, down) {

@@ -5,6 +5,7 @@ use mathlib.Core.Option.{Option, none, some}
 use mathlib.Core.List.{List}
 use lib.ListN.{length, getD}
 use lib.Dec.{eqb, leb, ltb}
+use Rattle.automata.specs.Comparison.{at-alone}
 use Rattle.automata.specs.Clocks.{at, each, allb, count}
 use Rattle.automata.specs.Row.{Row}
 use Rattle.automata.specs.Rankings.{usedb}
@@ -15,9 +16,9 @@ use Rattle.regions.specs.declared.clock_move.Move.{Move}
 
 -- edges with one next row at most -----------------------------------------------------------------------------------------------
 
--- the update asks for one value: the old one, or by '=' that of a constant or of a clock plus an offset
+-- the update asks for one value: the old one, or that of a constant or of a clock plus an offset
 unfoldable pub settledb : Update → Bool
-settledb u = eqb (comparison-of (u .comparison) (u .action)) 2
+settledb u = at-alone (comparison-of (u .comparison) (u .action))
 
 -- the update of clock z asks for one value
 abbrev pub settled-at : Edge → ℕ → Bool

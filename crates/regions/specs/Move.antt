@@ -3,11 +3,11 @@ use Prim.Native.Nat.{ℕ, _+_, _*_, _≤_, _<_}
 use mathlib.Core.Path.{_≡_}
 use mathlib.Core.Bool.{Bool}
 use mathlib.Core.List.{List}
-use Rattle.automata.specs.Comparison.{answer, some-answer}
+use Rattle.automata.specs.Comparison.{equal, answer, some-answer}
 use Rattle.automata.specs.Clocks.{at}
 use Rattle.automata.specs.Row.{Row}
 use Rattle.automata.specs.Edge.{Action, keep, constant, clock, Update}
-use Rattle.automata.specs.Successors.{Rel, fixed, free, parts, relation, comparison-of, fits}
+use Rattle.automata.specs.Successors.{Rel, fixed, free, parts, relation, fits}
 use Rattle.regions.specs.declared.clock_move.Move.{Move}
 
 -- the move of clock z against clock y plus up less down: what is taken away stands on the new interval's side
@@ -25,7 +25,7 @@ abbrev pub move-of : List ℕ → Row → ℕ → Update → Move
 move-of c r z u = by (u .action)
   where
     by : Action → Move
-    by keep = move-to c r z 2 z 0 0
+    by keep = move-to c r z equal z 0 0
     by (constant k) = record { comparison = u .comparison; shift = 0; reference = 2 * k; rank = 0; top = 2 * at c z + 1 }
     by (clock y up down) = move-to c r z (u .comparison) y up down
 

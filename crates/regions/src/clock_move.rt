@@ -8,7 +8,6 @@ ghost use mathlib.Core.Path.{_≡_};
 ghost use mathlib.Core.Bool.{_&&_};
 ghost use Prim.Native.Nat.{_+_, _*_, _-_, _%_, _<_, _≤_};
 ghost use lib.Dec.{eqb, leb};
-ghost use Rattle.automata.specs.Comparison.{some-answer};
 ghost use Rattle.automata.specs.Edge.{BoundedBy};
 ghost use Rattle.automata.specs.Successors.{least};
 ghost use Rattle.regions.specs.Values.{Few, bounds-of, row-of, update-of};
@@ -23,19 +22,6 @@ pub struct Move {
     pub reference: u32,
     pub rank: u8,
     pub top: u16,
-}
-
-// Whether the comparison allows any order at all.
-fn some_answer(cmp: u8) -> bool
-    ensures { λ r. ⌜ r ≡ some-answer cmp ⌝ }
-{
-    if comparison::holds(cmp, 0, 1) {
-        return true;
-    }
-    if comparison::holds(cmp, 1, 1) {
-        return true;
-    }
-    comparison::holds(cmp, 1, 0)
 }
 
 // A whole value as an interval.
@@ -64,7 +50,7 @@ impl Region {
         let action = update.action;
         match action {
             Action::Keep => Move {
-                comparison: 2,
+                comparison: comparison::EQUAL,
                 shift: 0,
                 reference: self.intervals[z] as u32,
                 rank: self.ranks[z],
@@ -117,7 +103,7 @@ impl Move {
         ensures { λ r. ⌜ r ≡ fits-at self interval position ⌝ }
     {
         if self.is_free(interval) {
-            return some_answer(self.comparison);
+            return comparison::allows_some(self.comparison);
         }
         if self.is_by_parts(interval) {
             return comparison::holds(
@@ -138,10 +124,10 @@ impl Move {
         ensures { λ r. ⌜ r ≡ permitsb self interval ⌝ }
     {
         if self.is_free(interval) {
-            return some_answer(self.comparison);
+            return comparison::allows_some(self.comparison);
         }
         if self.is_by_parts(interval) {
-            return some_answer(self.comparison);
+            return comparison::allows_some(self.comparison);
         }
         comparison::holds(
             self.comparison,

@@ -1,11 +1,11 @@
-// The five comparisons: one table, which guards, run values and region moves all ask.
+// The six comparisons: one table, which guards, run values, region moves and the order of rows all ask.
 ghost use mathlib.Core.Path.{_≡_};
 ghost use lib.Dec.{ltb};
-ghost use Rattle.automata.specs.Comparison.{comparisons, place, answer, some-answer, holds};
-ghost use Prim.Native.Nat.{compare};
+ghost use Rattle.automata.specs.Comparison.{comparisons, equal, place, answer, holds, some-answer, at-alone};
+ghost use Prim.Native.Nat.{compare, Ordering·lt, Ordering·eq, Ordering·gt};
 
-// Rows: 0 <, 1 ≤, 2 =, 3 ≥, 4 >. Columns: the answer for below, at and above.
-const COMPARISONS: usize = 5;
+// Rows: 0 <, 1 ≤, 2 =, 3 ≥, 4 >, 5 ≠. Columns: the answer for below, at and above.
+const COMPARISONS: usize = 6;
 
 const ANSWERS: [[bool; 3]; COMPARISONS] = [
     [true, false, false],
@@ -13,7 +13,11 @@ const ANSWERS: [[bool; 3]; COMPARISONS] = [
     [false, true, false],
     [false, true, true],
     [false, false, true],
+    [true, false, true],
 ];
+
+// The comparison to keep by: =.
+pub const EQUAL: u8 = 2;
 
 // Whether a number names a comparison.
 pub fn is_comparison(number: u8) -> bool
@@ -45,4 +49,51 @@ pub fn holds(comparison: u8, x: u64, y: u64) -> bool
     }
     let column = side(x, y);
     ANSWERS[row][column]
+}
+
+// Whether the comparison allows what is below.
+pub fn allows_below(comparison: u8) -> bool
+    ensures { λ r. ⌜ r ≡ answer comparison Ordering·lt ⌝ }
+{
+    holds(comparison, 0, 1)
+}
+
+// Whether it allows what is equal.
+pub fn allows_at(comparison: u8) -> bool
+    ensures { λ r. ⌜ r ≡ answer comparison Ordering·eq ⌝ }
+{
+    holds(comparison, 0, 0)
+}
+
+// Whether it allows what is above.
+pub fn allows_above(comparison: u8) -> bool
+    ensures { λ r. ⌜ r ≡ answer comparison Ordering·gt ⌝ }
+{
+    holds(comparison, 1, 0)
+}
+
+// Whether it allows any order at all.
+pub fn allows_some(comparison: u8) -> bool
+    ensures { λ r. ⌜ r ≡ some-answer comparison ⌝ }
+{
+    if allows_below(comparison) {
+        return true;
+    }
+    if allows_at(comparison) {
+        return true;
+    }
+    allows_above(comparison)
+}
+
+// Whether it allows what is equal and nothing else, and so asks for one value.
+pub fn is_at_alone(comparison: u8) -> bool
+    ensures { λ r. ⌜ r ≡ at-alone comparison ⌝ }
+{
+    if allows_below(comparison) {
+        return false;
+    }
+    if allows_above(comparison) {
+        return false;
+    }
+    allows_at(comparison)
 }

@@ -1,5 +1,6 @@
 // The next region by a deterministic edge, one whose updates ask for one value each: computed clock by clock, with no search.
 use crate::clock_move::Move;
+use crate::comparison;
 use crate::edge::Action;
 use crate::edge::Edge;
 use crate::edge::Update;
@@ -20,15 +21,15 @@ ghost use Rattle.regions.specs.Image.{settledb, deterministic, moved-int
 
 // Edges with one next region at most ---------------------------------------------------------------------------------------------
 
-// Whether the update asks for one value: the old one, or by '=' that of a constant or of a clock plus an offset.
+// Whether the update asks for one value: the old one, or that of a constant or of a clock plus an offset.
 fn is_settled(update: Update) -> bool
     ensures { λ r. ⌜ r ≡ settledb (update-of update) ⌝ }
 {
     let action = update.action;
     match action {
         Action::Keep => true,
-        Action::Constant(_) => update.comparison == 2,
-        Action::Clock(_, _, _) => update.comparison == 2,
+        Action::Constant(_) => comparison::is_at_alone(update.comparison),
+        Action::Clock(_, _, _) => comparison::is_at_alone(update.comparison),
     }
 }
 

@@ -1,6 +1,7 @@
 // The places of the new fractional parts among the old ones: for each new rank a position, after those of the ranks before it, where all clocks
 // of that rank fit. Position 2 q - 1 is at rank q's old part, position 2 q between that and the next.
 use crate::clock_move::Move;
+use crate::comparison;
 use crate::edge::Edge;
 use crate::region::Clocks;
 use crate::region::Region;
@@ -31,7 +32,7 @@ impl Region {
     {
         let n = clocks.count as usize;
         let still = Move {
-            comparison: 0,
+            comparison: comparison::EQUAL,
             shift: 0,
             reference: 0,
             rank: 0,

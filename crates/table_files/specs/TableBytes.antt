@@ -50,7 +50,7 @@ table-bytes flags T =
 
 -- the conditions -------------------------------------------------------------------------------------------------------------
 
--- "The five comparisons"; "constant 0 to 127"
+-- a row of the table of comparisons; "constant 0 to 127"
 pub record GuardFields (g : Guard) : Type 0 where
   pub comparison : g .comparison < comparisons
   pub constant-low : g .constant ≤ 127

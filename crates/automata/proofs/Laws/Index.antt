@@ -6,7 +6,7 @@ use mathlib.Core.Logic.{_⊎_, _↔_}
 use mathlib.Core.Option.{none, some}
 use mathlib.Core.List.{List, map}
 use lib.ListN.{length}
-use Rattle.automata.specs.Comparison.{holds}
+use Rattle.automata.specs.Comparison.{equal, holds}
 use Rattle.automata.specs.Clocks.{at, greatest}
 use Rattle.automata.specs.Row.{Row, IsRow}
 use Rattle.automata.specs.Point.{Contains, later, scaled}
@@ -19,6 +19,7 @@ use Rattle.automata.specs.Successors.{guardsb, leadsb, wait-rows, edge-r
 use Rattle.automata.specs.Next.{TimeSuccessor, EdgeSuccessor, Next, time-successors, edge-successors, next-rows}
 use Rattle.automata.specs.Checks.{closedb}
 use Rattle.automata.specs.Meeting.{Met, Successive}
+use Rattle.automata.proofs.Laws.Order
 use Rattle.automata.proofs.Laws.Scale
 use Rattle.automata.proofs.Laws.Waiting
 use Rattle.automata.proofs.Laws.Finer
@@ -101,6 +102,15 @@ rest = Time.rest
 -- the next row is a row
 pub wait-is-row : (c : List ℕ) (r r′ : Row) → IsRow c r → wait c r ≡ some r′ → IsRow c r′
 wait-is-row = Waiting.wait-row
+
+-- comparisons -------------------------------------------------------------------------------------------------------------------
+
+-- = holds just where the numbers are equal, and comparison 5 just where they differ
+pub equal-law : (x y : ℕ) → (holds equal x y ≡ true) ↔ (x ≡ y)
+equal-law = Order.equal-law
+
+pub not-equal-law : (x y : ℕ) → (holds 5 x y ≡ true) ↔ (x ≡ y → ⊥)
+not-equal-law = Order.not-equal-law
 
 -- edges -------------------------------------------------------------------------------------------------------------------------
 

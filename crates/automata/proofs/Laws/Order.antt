@@ -4,10 +4,12 @@ use Prim.Native.Nat.{compare·zero-zero, compare·zero-suc, compare·suc-zero, c
 use native.Mathlib.Nat.{mul-lt-mul-of-pos-left}
 use native.Mathlib.Omega.{arith}
 use mathlib.Core.Path.{_≡_, refl, sym, ap, _∙_}
-use mathlib.Core.Bool.{Bool, false}
+use mathlib.Core.Bool.{Bool, true, false, not, _&&_, _||_, and-true, and-false, or-true}
+use mathlib.Core.Logic.{_↔_}
 use mathlib.Core.List.{List, [], _∷_}
 use lib.ListN.{length, getD}
-use Rattle.automata.specs.Comparison.{answers, place, answer, holds}
+use Rattle.automata.specs.Comparison.{answers, equal, place, answer, holds, at-alone}
+use Rattle.automata.proofs.Laws.Tests.{never}
 
 -- the three cases of two numbers, each with what `compare` says
 pub data Tri (a b : ℕ) : Type 0 where
@@ -89,6 +91,51 @@ pub place-small : (o : Ordering) → place o < 3
 place-small Ordering·lt = omega arith
 place-small Ordering·eq = omega arith
 place-small Ordering·gt = omega arith
+
+-- whether a comparison asks for one value, answer by answer
+pub not-below-alone : (cmp : ℕ) → answer cmp Ordering·lt ≡ true → false ≡ at-alone cmp
+unfolding at-alone
+not-below-alone cmp h = rw h (sym (and-false (answer cmp Ordering·eq)))
+
+pub not-above-alone : (cmp : ℕ) → answer cmp Ordering·gt ≡ true → false ≡ at-alone cmp
+unfolding at-alone
+not-above-alone cmp h = rw (h, or-true (answer cmp Ordering·lt)) (sym (and-false (answer cmp Ordering·eq)))
+
+pub at-is-alone : (cmp : ℕ) → answer cmp Ordering·lt ≡ false → answer cmp Ordering·gt ≡ false → answer cmp Ordering·eq ≡ at-alone cmp
+unfolding at-alone
+at-is-alone cmp l g = rw (l, g) (sym (and-true (answer cmp Ordering·eq)))
+
+-- what a comparison allows that asks for one value: that value, and no other
+pub alone-law : (cmp : ℕ) → at-alone cmp ≡ true → (x y : ℕ) → (holds cmp x y ≡ true) ↔ (x ≡ y)
+unfolding holds at-alone
+alone-law cmp alone x y = go (tri x y) (answer cmp Ordering·lt) refl (answer cmp Ordering·eq) refl (answer cmp Ordering·gt) refl alone
+  where
+    go : Tri x y → (l : Bool) → answer cmp Ordering·lt ≡ l → (e : Bool) → answer cmp Ordering·eq ≡ e → (g : Bool) → answer cmp Ordering·gt ≡ g
+        → (e && not (l || g)) ≡ true → (answer cmp (compare x y) ≡ true) ↔ (x ≡ y)
+    go (is-lt h c) false l true e false g t = (λ q. never (sym l ∙ ap (answer cmp) (sym c) ∙ q), λ q. absurd (omega arith))
+    go (is-eq h c) false l true e false g t = (λ q. h, λ q. ap (answer cmp) c ∙ e)
+    go (is-gt h c) false l true e false g t = (λ q. never (sym g ∙ ap (answer cmp) (sym c) ∙ q), λ q. absurd (omega arith))
+    go t true l true e g f z = never z
+    go t true l false e g f z = never z
+    go t false l false e g f z = never z
+    go t false l true e true f z = never z
+
+pub equal-alone : at-alone equal ≡ true
+unfolding at-alone answer
+equal-alone = refl
+
+pub equal-law : (x y : ℕ) → (holds equal x y ≡ true) ↔ (x ≡ y)
+equal-law = alone-law equal equal-alone
+
+-- comparison 5 holds just where the numbers differ
+pub not-equal-law : (x y : ℕ) → (holds 5 x y ≡ true) ↔ (x ≡ y → ⊥)
+unfolding holds answer
+not-equal-law x y = go (tri x y)
+  where
+    go : Tri x y → (holds 5 x y ≡ true) ↔ (x ≡ y → ⊥)
+    go (is-lt h e) = (λ q n. omega arith, λ n. rw e)
+    go (is-eq h e) = (λ q n. never (rw e at q), λ n. absurd (n h))
+    go (is-gt h e) = (λ q n. omega arith, λ n. rw e)
 
 -- a number past the table's last row names no comparison, and allows nothing
 pub no-comparison : (cmp x y : ℕ) → length answers ≤ cmp → holds cmp x y ≡ false

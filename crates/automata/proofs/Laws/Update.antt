@@ -7,14 +7,14 @@ use mathlib.Core.Logic.{_⊎_, inl, inr}
 use mathlib.Core.List.{List}
 use lib.ListN.{length}
 use lib.Dec.{eqb, leb}
-use Rattle.automata.specs.Comparison.{answer, holds}
+use Rattle.automata.specs.Comparison.{equal, answer, holds}
 use Rattle.automata.specs.Clocks.{at, greatest}
 use Rattle.automata.specs.Row.{Row, Open, IsRow}
 use Rattle.automata.specs.Point.{Within, part, Contains, scaled}
 use Rattle.automata.specs.Edge.{Action, keep, constant, clock, AllowedBy, BoundedBy}
 use Rattle.automata.specs.Successors.{Rel, fixed, free, parts, relation, rel-clock, rel, comparison-of, fits}
-use Rattle.automata.proofs.Laws.Order.{Tri, is-lt, is-eq, is-gt, tri, compare-lt, compare-eq, compare-gt}
-use Rattle.automata.proofs.Laws.Tests.{Says, never, refutes, and-law, eqb-law, leb-law}
+use Rattle.automata.proofs.Laws.Order.{compare-lt, compare-eq, compare-gt, equal-law}
+use Rattle.automata.proofs.Laws.Tests.{Says, refutes, and-law, eqb-law, leb-law}
 use Rattle.automata.proofs.Laws.Lists.{at-scaled, at-greatest}
 use Rattle.automata.proofs.Laws.Clocks.{within-range}
 use Rattle.automata.proofs.Laws.Scale.{scaling}
@@ -73,19 +73,6 @@ free-law cmp p = (found (answer cmp Ordering·lt) refl (answer cmp Ordering·eq)
     some-order Ordering·lt h = rw h
     some-order Ordering·eq h = rw (h, or-true (answer cmp Ordering·lt))
     some-order Ordering·gt h = rw h (or-true (answer cmp Ordering·lt || answer cmp Ordering·eq))
-
-equal-holds : (x y : ℕ) → x ≡ y → holds 2 x y ≡ true
-unfolding holds answer
-equal-holds x y h = rw (compare-eq x y h)
-
-holds-equal : (x y : ℕ) → holds 2 x y ≡ true → x ≡ y
-unfolding holds answer
-holds-equal x y h = go (tri x y)
-  where
-    go : Tri x y → x ≡ y
-    go (is-lt k e) = never (rw e at h)
-    go (is-eq k e) = k
-    go (is-gt k e) = never (rw e at h)
 
 -- the law of one clock ---------------------------------------------------------------------------------------------------------
 
@@ -162,7 +149,7 @@ module _ (c : List ℕ) (r : Row) (R : IsRow c r) (E : ℕ) (u : List ℕ) (C : 
   pub forth : (z j x p cmp : ℕ) (a : Action) → z < length c → BoundedBy c z a → Within E (at c z) j x
       → (Open (at c z) j → Placed-at p (part E j x)) → AllowedBy E u z x cmp a → fits (comparison-of cmp a) (rel c r z j a) p ≡ true
   unfolding fits holds
-  forth z j x p cmp keep l b w at-p h = forth-clock z j x p z 0 0 2 l (omega arith) w at-p (equal-holds (x + 0 * E) (at u z + 0 * E) (omega arith))
+  forth z j x p cmp keep l b w at-p h = forth-clock z j x p z 0 0 equal l (omega arith) w at-p (equal-law (x + 0 * E) (at u z + 0 * E) .1 (omega arith))
   forth z j x p cmp (constant k) l b w at-p h = ap (answer cmp) (sym (within-compare E (at c z) j x k (C .positive) b w)) ∙ h
   forth z j x p cmp (clock y up down) l b w at-p h = forth-clock z j x p y up down cmp (b .0) (b .1) w at-p h
 
@@ -197,8 +184,8 @@ module _ (c : List ℕ) (r : Row) (R : IsRow c r) (D : ℕ) (v : List ℕ) (C : 
       → (x : ℕ) × Placing (k * D) (at c z) j w x × AllowedBy (k * D) (scaled k v) z x cmp a
   unfolding fits holds
   back z j w p cmp keep l b jr want h =
-      let (x, pl, held) = back-clock z j w p z 0 0 2 l (omega arith) jr want h in
-      (x, pl, omega (arith, holds-equal (x + 0 * (k * D)) (at (scaled k v) z + 0 * (k * D)) held))
+      let (x, pl, held) = back-clock z j w p z 0 0 equal l (omega arith) jr want h in
+      (x, pl, omega (arith, equal-law (x + 0 * (k * D)) (at (scaled k v) z + 0 * (k * D)) .0 held))
   back z j w p cmp (constant a) l b jr want h =
       let (x, pl) = placing (k * D) (at c z) j w jr (λ o. (want o .0, want o .1)) in
       (x, pl, ap (answer cmp) (within-compare (k * D) (at c z) j x a (finer .positive) b (pl .inside)) ∙ h)

@@ -1,5 +1,5 @@
 -- Two regions compared in what the updates of an edge allow from them, clock by clock. Assumes nothing.
-use Prim.Native.Nat.{ℕ, zero, suc, _+_, _*_, _≤_, _<_}
+use Prim.Native.Nat.{ℕ, zero, suc, _+_, _*_, _≤_, _<_, Ordering·lt, Ordering·gt}
 use Rattle.regions.proofs.Laws.Values.{allb-fails}
 use native.Mathlib.Numerals.{add-one}
 use native.Mathlib.Omega.{arith}
@@ -10,7 +10,7 @@ use lib.ListN.{length, getD, take}
 use lib.Seq.{getD-take}
 use lib.Dec.{eqb, leb, ltb}
 use borrow.Author.Tests.{eq-eqb, ne-eqb, lt-leb, le-ltb, ltb-true}
-use Rattle.automata.specs.Comparison.{holds}
+use Rattle.automata.specs.Comparison.{answer}
 use Rattle.automata.specs.Clocks.{at, allb}
 use Rattle.automata.specs.Row.{Row}
 use Rattle.automata.specs.Edge.{clock, BoundedBy, Bounded, Update, idle, Edge}
@@ -59,12 +59,12 @@ module _ (n : ℕ) (r s : Region) (z : ℕ) (l : z < n) where
 -- which of them the comparison asks for -------------------------------------------------------------------------------------------------
 
 -- where the table's answers for above and below are known
-module _ (cmp : ℕ) (r s : Row) (y : ℕ) (a b : Bool) (above : a ≡ holds cmp 1 0) (below : b ≡ holds cmp 0 1) where
+module _ (cmp : ℕ) (r s : Row) (y : ℕ) (a b : Bool) (above : a ≡ answer cmp Ordering·gt) (below : b ≡ answer cmp Ordering·lt) where
   abbrev by-answers : Bool → Bool → Bool
   by-answers a b = cond (a && not b) (no-lowerb r s y) (cond (b && not a) (no-lowerb s r y) (agreeb r s y))
 
   orders-at : by-answers a b ≡ ordersb cmp r s y
-  unfolding ordersb holds
+  unfolding ordersb
   orders-at = λ i. by-answers (above i) (below i)
 
   pub orders-equal : Bool·beq a b ≡ true → agreeb r s y ≡ ordersb cmp r s y

@@ -1,10 +1,10 @@
 -- Whether an update allows values above a clock's, as the code asks it. Assumes nothing.
-use Prim.Native.Nat.{ℕ, _≤_, _<_}
+use Prim.Native.Nat.{ℕ, _≤_, _<_, Ordering·gt}
 use native.Mathlib.Omega.{arith}
 use mathlib.Core.Path.{_≡_, sym, ap, _∙_}
 use mathlib.Core.Bool.{Bool, false, not}
 use lib.ListN.{length, getD}
-use Rattle.automata.specs.Comparison.{holds}
+use Rattle.automata.specs.Comparison.{answer}
 use Rattle.automata.specs.Edge.{idle}
 use Rattle.regions.specs.Values.{update-of, edge-of}
 use Rattle.regions.specs.declared.edge.Action as action-code
@@ -23,8 +23,8 @@ module _ (u : update-code.Update) where
   unfolding risesb
   rises-constant k e = rw e
 
-  pub rises-clock : (y up down : ℕ) → u .action ≡ action-code.the-variants.Clock y up down → holds (u .comparison) 1 0 ≡ risesb (update-of u)
-  unfolding risesb holds
+  pub rises-clock : (y up down : ℕ) → u .action ≡ action-code.the-variants.Clock y up down → answer (u .comparison) Ordering·gt ≡ risesb (update-of u)
+  unfolding risesb
   rises-clock y up down e = rw e
 
 -- the code's update of clock z

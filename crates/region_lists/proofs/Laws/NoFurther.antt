@@ -9,7 +9,7 @@ use mathlib.Core.List.{List, [], _∷_}
 use lib.ListN.{length, getD}
 use lib.Dec.{leb, eqb}
 use borrow.Author.Tests.{le-leb, lt-leb, eq-eqb, ne-eqb}
-use Rattle.automata.specs.Comparison.{answer}
+use Rattle.automata.specs.Comparison.{equal, answer}
 use Rattle.automata.specs.Clocks.{at, allb, greatest}
 use Rattle.automata.specs.Row.{Row, IsRow}
 use Rattle.automata.specs.Edge.{Action, keep, constant, clock, idle, Edge}
@@ -265,7 +265,7 @@ module _ (c : List ℕ) (r s : Row) where
 
   narrower : (cmp z j p : ℕ) (a : Action) → j ≤ 2 * at c z + 1 → narrowerb c r s z cmp a ≡ true → Allows cmp z j a p
   narrower cmp z j p keep l h f =
-      let (e, q) = agreed r s z h in (λ i. fits 2 (relation (2 * at c z + 1) j (j + 2 * 0) (sym e i + 2 * 0) (sym q i)) p) ∙ f
+      let (e, q) = agreed r s z h in (λ i. fits equal (relation (2 * at c z + 1) j (j + 2 * 0) (sym e i + 2 * 0) (sym q i)) p) ∙ f
   narrower cmp z j p (constant k) l h f = f
   narrower cmp z j p (clock y up down) l h f =
       go (or-law _ _ (beyondb-law (at c z) (at (r .intervals) y) (at (s .intervals) y) up down) (itself (ordersb cmp r s y)) .0 h)

@@ -10,6 +10,7 @@ use lib.ListN.{length, getD, set, replicate}
 use lib.Seq.{getD-set-same, getD-set-other}
 use lib.Dec.{eqb}
 use borrow.Author.Tests.{eq-eqb, ne-eqb, le-ltb, lt-ltb}
+use Rattle.automata.specs.Comparison.{at-alone}
 use Rattle.automata.specs.Clocks.{at, each, someb, one-if, count}
 use Rattle.automata.specs.Edge.{idle}
 use Rattle.automata.specs.Rankings.{usedb}
@@ -19,6 +20,7 @@ use Rattle.regions.specs.declared.edge.Action as action-code
 use Rattle.regions.specs.declared.edge.Update as update-code
 use Rattle.regions.specs.declared.edge.Edge as edge-code
 use Rattle.regions.specs.declared.clock_move.Move.{Move}
+use Rattle.automata.proofs.Laws.Order.{equal-alone}
 use Rattle.automata.proofs.Laws.Count.{count-same}
 use Rattle.regions.proofs.Laws.Values.{getD-mapped, padded-next}
 use Rattle.regions.proofs.Laws.Moves.{no-update}
@@ -28,13 +30,13 @@ use Rattle.regions.proofs.Laws.Moves.{no-update}
 module _ (u : update-code.Update) where
   pub settled-keep : u .action ≡ action-code.the-variants.Keep → true ≡ settledb (update-of u)
   unfolding settledb
-  settled-keep e = rw e
+  settled-keep e = rw (e, equal-alone)
 
-  pub settled-constant : (k : ℕ) → u .action ≡ action-code.the-variants.Constant k → eqb (u .comparison) 2 ≡ settledb (update-of u)
+  pub settled-constant : (k : ℕ) → u .action ≡ action-code.the-variants.Constant k → at-alone (u .comparison) ≡ settledb (update-of u)
   unfolding settledb
   settled-constant k e = rw e
 
-  pub settled-clock : (y up down : ℕ) → u .action ≡ action-code.the-variants.Clock y up down → eqb (u .comparison) 2 ≡ settledb (update-of u)
+  pub settled-clock : (y up down : ℕ) → u .action ≡ action-code.the-variants.Clock y up down → at-alone (u .comparison) ≡ settledb (update-of u)
   unfolding settledb
   settled-clock y up down e = rw e
 

@@ -86,15 +86,6 @@ some-order cmp Ordering·lt h = rw h
 some-order cmp Ordering·eq h = rw (h, or-true (answer cmp Ordering·lt))
 some-order cmp Ordering·gt h = rw h (or-true (answer cmp Ordering·lt || answer cmp Ordering·eq))
 
--- the code asks of 0 and 1, 1 and 1, 1 and 0
-pub some-last : (cmp : ℕ) → holds cmp 0 1 ≡ false → holds cmp 1 1 ≡ false → holds cmp 1 0 ≡ some-answer cmp
-unfolding holds some-answer
-some-last cmp a b = rw (a, b)
-
-pub some-holds : (cmp x y : ℕ) → holds cmp x y ≡ true → true ≡ some-answer cmp
-unfolding holds
-some-holds cmp x y h = sym (some-order cmp (compare x y) h)
-
 pub fits-permits : (m : Move) (j p : ℕ) → fits-at m j p ≡ true → permitsb m j ≡ true
 unfolding fits-at permitsb fits fits-somewhere some-answer
 fits-permits m j p h = go (rel-of m j) h

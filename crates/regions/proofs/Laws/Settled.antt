@@ -6,8 +6,7 @@ use mathlib.Core.Bool.{true}
 use mathlib.Core.Logic.{_↔_}
 use mathlib.Core.List.{List}
 use lib.ListN.{length}
-use borrow.Author.Tests.{eqb-true}
-use Rattle.automata.specs.Comparison.{answer, holds}
+use Rattle.automata.specs.Comparison.{at-alone}
 use Rattle.automata.specs.Clocks.{at, greatest}
 use Rattle.automata.specs.Row.{Row, Open, IsRow}
 use Rattle.automata.specs.Point.{part, Contains}
@@ -16,22 +15,11 @@ use Rattle.automata.specs.Successors.{comparison-of}
 use Rattle.regions.specs.Move.{move-of}
 use Rattle.regions.specs.Image.{settledb}
 use Rattle.regions.specs.declared.clock_move.Move.{Move}
-use Rattle.automata.proofs.Laws.Order.{Tri, is-lt, is-eq, is-gt, tri}
-use Rattle.automata.proofs.Laws.Tests.{never}
+use Rattle.automata.proofs.Laws.Order.{alone-law}
 use Rattle.automata.proofs.Laws.Lists.{at-greatest}
 use Rattle.automata.proofs.Laws.Sides.{Sides, sides, whole}
 use Rattle.automata.proofs.Laws.Classes.{Classes}
 use Rattle.regions.proofs.Laws.Origin.{Origin, Comes}
-
--- '=' allows what is equal
-pub equal-law : (x y : ℕ) → (holds 2 x y ≡ true) ↔ (x ≡ y)
-unfolding holds answer
-equal-law x y = go (tri x y)
-  where
-    go : Tri x y → (holds 2 x y ≡ true) ↔ (x ≡ y)
-    go (is-lt l e) = (λ h. never (rw e at h), λ h. absurd (omega arith))
-    go (is-eq l e) = (λ h. l, λ h. rw e)
-    go (is-gt l e) = (λ h. never (rw e at h), λ h. absurd (omega arith))
 
 -- the whole value k, whatever the bound
 whole-sides : (D b k : ℕ) → 0 < D → Sides D b (2 * k) (k * D)
@@ -56,7 +44,7 @@ module _ (c : List ℕ) (D : ℕ) (v : List ℕ) (r : Row) (R : IsRow c r) (C : 
     abbrev From : ℕ → Action → Type 0
     From cmp a = Source D (at c z) (greatest (r .ranks)) (K .class) (λ x. AllowedBy D v z x cmp a) (move-of c r z (record { action = a; comparison = cmp }))
 
-    by-action : (cmp : ℕ) (a : Action) → comparison-of cmp a ≡ 2 → BoundedBy c z a → From cmp a
+    by-action : (cmp : ℕ) (a : Action) → at-alone (comparison-of cmp a) ≡ true → BoundedBy c z a → From cmp a
     by-action cmp keep e b = record {
       origin = record {
         bound = at c z;
@@ -86,7 +74,7 @@ module _ (c : List ℕ) (D : ℕ) (v : List ℕ) (r : Row) (R : IsRow c r) (C : 
         reference = omega arith;
         top = refl;
       };
-      comes = λ x. rw e (λ h. let q = equal-law x (k * D) .0 h in omega arith, λ h. equal-law x (k * D) .1 (omega arith));
+      comes = λ x. (λ h. let q = alone-law cmp e x (k * D) .0 h in omega arith, λ h. alone-law cmp e x (k * D) .1 (omega arith));
       ranked = λ o. absurd (omega arith);
     }
     by-action cmp (clock y up down) e b = record {
@@ -102,10 +90,10 @@ module _ (c : List ℕ) (D : ℕ) (v : List ℕ) (r : Row) (R : IsRow c r) (C : 
         reference = refl;
         top = refl;
       };
-      comes = λ x. rw e (equal-law (x + down * D) (at v y + up * D));
+      comes = λ x. alone-law cmp e (x + down * D) (at v y + up * D);
       ranked = ranked-at y (b .0);
     }
 
     pub source : (u : Update) → settledb u ≡ true → BoundedBy c z (u .action) → From (u .comparison) (u .action)
     unfolding settledb
-    source u s b = by-action (u .comparison) (u .action) (eqb-true (comparison-of (u .comparison) (u .action)) 2 s) b
+    source u s b = by-action (u .comparison) (u .action) s b

@@ -7,11 +7,11 @@ use Rattle.regions.proofs.clock_move.Move.fits_at.Tie as tie
 is-free-requires : tie.Need-is-free-requires
 is-free-requires c κs = search needs
 
-some-answer-requires : tie.Need-some-answer-requires
-some-answer-requires c κs = search needs
+allows-some-requires : tie.Need-allows-some-requires
+allows-some-requires c κs = search needs
 
 returns : tie.Need-returns
-returns c = c .some-answer .ensures ∙ fits-free _ _ _ (sym (c .before .before .is-free .ensures) ∙ c .before .if1 .taken)
+returns c = c .allows-some .ensures ∙ fits-free _ _ _ (sym (c .before .before .is-free .ensures) ∙ c .before .if1 .taken)
 
 is-by-parts-requires : tie.Need-is-by-parts-requires
 is-by-parts-requires c κs = search needs
@@ -51,7 +51,7 @@ fits-at-spec =
     tie.close
     (tie.spec
     is-free-requires
-    some-answer-requires
+    allows-some-requires
     returns
     is-by-parts-requires
     add-holds

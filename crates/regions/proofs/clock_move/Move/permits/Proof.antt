@@ -7,20 +7,20 @@ use Rattle.regions.proofs.clock_move.Move.permits.Tie as tie
 is-free-requires : tie.Need-is-free-requires
 is-free-requires c κs = search needs
 
-some-answer-requires : tie.Need-some-answer-requires
-some-answer-requires c κs = search needs
+allows-some-requires : tie.Need-allows-some-requires
+allows-some-requires c κs = search needs
 
 returns : tie.Need-returns
-returns c = c .some-answer .ensures ∙ permits-free _ _ (sym (c .before .before .is-free .ensures) ∙ c .before .if1 .taken)
+returns c = c .allows-some .ensures ∙ permits-free _ _ (sym (c .before .before .is-free .ensures) ∙ c .before .if1 .taken)
 
 is-by-parts-requires : tie.Need-is-by-parts-requires
 is-by-parts-requires c κs = search needs
 
-some-answer-requires-2 : tie.Need-some-answer-requires-2
-some-answer-requires-2 c κs = search needs
+allows-some-requires-2 : tie.Need-allows-some-requires-2
+allows-some-requires-2 c κs = search needs
 
 returns-2 : tie.Need-returns-2
-returns-2 c = c .some-answer2 .ensures ∙ permits-parts _ _ (sym (c .before .before .before .before .is-free .ensures) ∙ c .before .before .before .if1 .left) (sym (c .before .before .is-by-parts .ensures) ∙ c .before .if2 .taken)
+returns-2 c = c .allows-some2 .ensures ∙ permits-parts _ _ (sym (c .before .before .before .before .is-free .ensures) ∙ c .before .before .before .if1 .left) (sym (c .before .before .is-by-parts .ensures) ∙ c .before .if2 .taken)
 
 cast-holds : tie.Need-cast-holds
 cast-holds c = search needs
@@ -42,10 +42,10 @@ permits-spec =
     tie.close
     (tie.spec
     is-free-requires
-    some-answer-requires
+    allows-some-requires
     returns
     is-by-parts-requires
-    some-answer-requires-2
+    allows-some-requires-2
     returns-2
     cast-holds
     add-holds
