@@ -153,19 +153,20 @@ same 'comparisons of docs/FORMAT.md (<) and of comparison.rt (>)'
 is 'numbers of comparisons in docs/FORMAT.md' "0 to $(($(wc -l < "$room/a") - 1))" \
   "$(sed -nE 's/^\| [12] \| (0 to [0-9]+) \|.*/\1/p' docs/FORMAT.md | sort -u)"
 
-# the hex: the table, then the paper; and the command that makes files of it, on the lines as they stand, without their margin, and with a deeper one
+# the hex: a table and its paper, then a table with ≠; and the command that makes files of it, on the lines as they stand, without their margin, and
+# with a deeper one
 blocks() { awk '/^    [0-9A-F][0-9A-F] / { if (!is_in) n++; is_in = 1; if (n == wanted) print; next } { is_in = 0 }' wanted="$1" docs/FORMAT.md; }
 recipe=$(sed -n 's/^    \(sed -nE .*table.txt.*\)/\1/p' docs/FORMAT.md)
 [ -n "$recipe" ] || bad 'docs/FORMAT.md has no command that makes a file of hex'
 command -v xxd > /dev/null || xxd() { tr -d ' \n' | sed 's/../\\x&/g' | xargs -0 printf; }
 wanted=0
-for name in table.tab proof.prf; do
+for file in empty/table.tab empty/proof.prf empty-not-equal/table.tab; do
   wanted=$((wanted + 1))
   for margin in '    ' '' '        ' $'\t'; do
     blocks $wanted | sed "s/^    /$margin/" > "$room/table.txt"
     rm -f "$room/table.tab"
     (cd "$room" && eval "$recipe")
-    if cmp -s "$room/table.tab" "examples/empty/$name"; then ok; else bad "the hex in docs/FORMAT.md, with the margin '$margin', is not examples/empty/$name"; fi
+    if cmp -s "$room/table.tab" "examples/$file"; then ok; else bad "the hex in docs/FORMAT.md, with the margin '$margin', is not examples/$file"; fi
   done
 done
 
