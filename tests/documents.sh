@@ -1,6 +1,7 @@
 #!/usr/bin/env bash
 # Holds the documents against the files that they speak of: every path named exists, every quote stands in its file, whole, and numbers, words, names,
-# comparisons, axioms and examples are the same wherever they are written. The last line is 'N passed, M failed'.
+# comparisons, axioms and examples are the same wherever they are written; and no code or definition goes by a comparison's number. The last line is
+# 'N passed, M failed'.
 # shellcheck disable=SC2016
 set -u
 export LC_ALL=C.UTF-8
@@ -168,6 +169,51 @@ for file in empty/table.tab empty/proof.prf empty-not-equal/table.tab; do
     (cd "$room" && eval "$recipe")
     if cmp -s "$room/table.tab" "examples/$file"; then ok; else bad "the hex in docs/FORMAT.md, with the margin '$margin', is not examples/$file"; fi
   done
+done
+
+# ---- no place goes by a comparison's number
+# What a comparison means stands in one table (`answers` in definitions, `ANSWERS` in code), and all else asks that table: a place that went by a number
+# would be passed over when a further comparison comes, and take it for another. So neither a number nor a constant's name may be held against a
+# comparison, be given to one, or stand for one where a function or a definition takes one. The search goes by the names `comparison` and `cmp`. In
+# definitions 0 may stand where a list has ended, as in `idle`.
+number='([0-9]|[A-Z][A-Z0-9_]+)' it='\b(comparison|cmp)\b'
+{
+  # code: u.comparison == 2 (also as usize), 2 <= comparison, comparison: 2, match u.comparison, holds(2, x, y)
+  printf '%s\n' "$it( as [a-z0-9]+)?\)* (==|!=|<=?|>=?) \(*$number" "\b$number (==|!=|<=?|>=?) \(*([a-z_]+\.)*$it" \
+    "$it: $number" "\bmatch \(*([a-z_]+\.)*$it" "\bholds\( ?$number"
+  # definitions: eqb cmp 2, ltb 2 cmp, cmp ≡ 2, 2 ≤ cmp, comparison = 2, comparison-of cmp keep = 2
+  printf '%s\n' "\b(eqb|leb|ltb|compare) $it [0-9]" "\b(eqb|leb|ltb|compare) [0-9]+ $it" "$it (≡|≢|<|≤|>|≥) [0-9]" "\b[0-9]+ (≡|≢|<|≤|>|≥) $it" \
+    "$it = [1-9]" "\bcomparison-of [^:=]*= [0-9]"
+  # and a number where a definition has `cmp` among its arguments: holds 2 x y
+  sed 's/--.*//' crates/*/specs/*.antt | awk '/=/ {
+    for (i = 2; i < NF && $i != "="; i++) if ($i ~ /^(cmp|comparison)$/) printf "\\b%s( [^ ()]+| [(][^()]*[)]){%d} [0-9]\n", $1, i - 2
+  }' | sort -u
+} > "$room/by-number"
+# by_number FILE: what it finds, in the text without comments, as one line, with `cmp` for (u .comparison) and (comparison-of ..)
+by_number() {
+  sed -E 's,(//|--).*,,' "$1" | tr -s ' \n' '  ' | sed -E 's/\([^()]* \.comparison\)/cmp/g; s/\(comparison-of ([^()]|\([^()]*\))*\)/cmp/g' |
+    grep -oE -f "$room/by-number"
+}
+# it is awake: it finds these, and not those
+for text in 'if update.comparison == 2 {' 'if (u.comparison as usize) != EQUAL {' 'if 3 <= comparison {' 'falling && comparison <= 1' 'comparison: 2,' \
+  'match u.comparison {' 'comparison::holds(2, x, y)' 'settledb u = eqb (comparison-of (u .comparison) (u .action)) 2' 'ltb 2 (u .comparison)' \
+  'comparison-of cmp keep = 2' 'record { action = keep; comparison = 2 }' 'holds 2 x y' 'AllowedBy D (later d v) z x 2 keep' 'u .comparison ≡ 2'; do
+  echo "$text" > "$room/text"
+  if by_number "$room/text" > /dev/null; then ok; else bad "the search for a comparison's number passes over '$text'"; fi
+done
+for text in 'comparison: u8,' 'comparison: u.comparison,' 'comparison::holds(u.comparison, 1, 0)' 'holds (u .comparison) x (2 * k)' 'comparison = cmp;' \
+  '// comparison == 2' 'AllowedBy D v z x cmp (constant 2)'; do
+  echo "$text" > "$room/text"
+  if found=$(by_number "$room/text"); then bad "the search for a comparison's number finds '$found'"; else ok; fi
+done
+for file in crates/*/src/*.rt crates/*/specs/*.antt; do
+  case $file in
+    # the table itself
+    crates/automata/specs/Comparison.antt | crates/regions/src/comparison.rt) continue ;;
+    # a table's fields and their ranges: a keep has 0 for its comparison
+    crates/table_files/specs/TableFile.antt | crates/table_files/specs/TableBytes.antt | crates/table_records/*) continue ;;
+  esac
+  if found=$(by_number "$file"); then bad "$file goes by a comparison's number: ${found//$'\n'/; }"; else ok; fi
 done
 
 # ---- docs/THEOREMS.md: every theorem and function named is defined, every edit named is there, and every edit that is there is named
