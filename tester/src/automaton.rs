@@ -80,7 +80,27 @@ pub enum Term {
     Clock { clock: usize, offset: i16 },
 }
 
+impl Term {
+    /// What a new value is compared with, in counts of 1/scale as the old values are; it may be below 0.
+    pub fn value(self, old: &[i64], scale: i64) -> i64 {
+        match self {
+            Term::Constant(constant) => i64::from(constant) * scale,
+            Term::Clock { clock, offset } => old[clock] + i64::from(offset) * scale,
+        }
+    }
+}
+
 impl Update {
+    /// None for keep, which has no comparison in the file.
+    pub fn comparison(self) -> Option<Comparison> {
+        match self {
+            Update::Keep => None,
+            Update::Constant { comparison, .. } | Update::Clock { comparison, .. } => {
+                Some(comparison)
+            }
+        }
+    }
+
     /// The update of `own` as a comparison to a term.
     pub fn relation(self, own: usize) -> (Comparison, Term) {
         match self {
@@ -117,6 +137,16 @@ pub struct Edge {
     pub guards: Vec<Guard>,
     /// One for each clock, in the order of the clocks.
     pub updates: Vec<Update>,
+}
+
+impl Edge {
+    /// Whether a guard or an update has the comparison.
+    pub fn has(&self, comparison: Comparison) -> bool {
+        let mut guards = self.guards.iter();
+        let mut updates = self.updates.iter();
+        guards.any(|guard| guard.comparison == comparison)
+            || updates.any(|update| update.comparison() == Some(comparison))
+    }
 }
 
 #[derive(Clone, Copy, Debug, PartialEq, Eq)]

@@ -2,17 +2,20 @@
 //! answers that hold together.
 
 mod common;
-use common::hex;
+use common::{constant, hex, AtLeast, NotEqual};
 
 use std::collections::BTreeMap;
+use tzelmaruf_tester::admit::admitted;
 use tzelmaruf_tester::answer::Answer;
+use tzelmaruf_tester::automaton::{Automaton, Edge, Update};
 use tzelmaruf_tester::format::{encode_table, parse_table, Reader};
 use tzelmaruf_tester::generate::{
     admit_case, follow_case, regions_case, run_case, seed, tables, Random, Shape,
 };
-use tzelmaruf_tester::region::{row_length, Region};
+use tzelmaruf_tester::region::{is_whole, row_length, top, Region};
 use tzelmaruf_tester::region_list::{encode_regions, parse_regions, read_row};
 use tzelmaruf_tester::run::{encode_run, parse_run};
+use tzelmaruf_tester::successor::by_intervals::{guard_holds, is_enabled};
 use tzelmaruf_tester::{admit, check_regions, check_run, follow};
 
 /// How often each refusal number came (0 stands for acceptance), and each
@@ -171,4 +174,138 @@ fn tables_of_every_size() {
     }
     println!("seed {seed}: 3000 tables");
     tally.assert_numbers("nearly admitted", 100, &[0, 5, 6]);
+}
+
+/// Where '≠' stands in the edges that are followed, and how often.
+type Uses = BTreeMap<&'static str, usize>;
+
+/// What the '≠' of an edge have to do with a row of its source.
+fn uses_from(automaton: &Automaton, edge: &Edge, row: Region) -> Vec<&'static str> {
+    let guards = edge.guards.iter();
+    let guards = guards.filter(|guard| guard.comparison == NotEqual);
+    let mut uses: Vec<_> = guards
+        .map(|guard| match guard_holds(row, guard) {
+            true => "guard that holds",
+            false => "guard that fails",
+        })
+        .collect();
+    if is_enabled(edge, row) {
+        let updates = edge.updates.iter().enumerate();
+        let updates = updates.filter(|(_, update)| update.comparison() == Some(NotEqual));
+        uses.extend(updates.flat_map(|(own, update)| uses_of_update(automaton, row, own, *update)));
+    }
+    uses
+}
+
+fn uses_of_update(
+    automaton: &Automaton,
+    row: Region,
+    own: usize,
+    update: Update,
+) -> Vec<&'static str> {
+    let Update::Clock { clock, offset, .. } = update else {
+        return vec!["constant"];
+    };
+    let y = usize::from(clock);
+    let (interval, rank) = (row.interval(y), row.rank(y));
+    let term = i16::from(interval) + 2 * offset;
+    if interval == top(automaton.bounds[y]) {
+        vec!["clock at the top"]
+    } else if term < 0 {
+        vec!["clock plus offset below 0"]
+    } else if term >= i16::from(top(automaton.bounds[own])) {
+        vec!["clock plus offset above the bound"]
+    } else if is_whole(interval) {
+        vec!["clock at a whole value"]
+    } else {
+        let is_shared = (0..automaton.clocks()).any(|z| z != y && row.rank(z) == rank);
+        let mut uses = vec!["clock between whole values"];
+        uses.extend(is_shared.then_some("clock with the same part as another"));
+        uses
+    }
+}
+
+/// '≠' comes in all places and from rows that tell its cases apart.
+#[test]
+fn not_equal_comes_everywhere() {
+    let seed = seed(20_506);
+    println!("seed {seed}: {CASES} cases");
+    let mut uses = Uses::new();
+    for case in 0..CASES as u64 {
+        let input = follow_case(&mut Random::of_case(seed, case), LARGE_ONCE_IN);
+        let Ok(automaton) = admitted(&input.table) else {
+            continue;
+        };
+        let Ok(row) = read_row(&mut Reader::new(&input.row), &automaton) else {
+            continue;
+        };
+        let edge = automaton.edges.get(usize::from(input.number));
+        if let Some(edge) = edge.filter(|edge| edge.source == row.location()) {
+            for each in uses_from(&automaton, edge, row) {
+                *uses.entry(each).or_default() += 1;
+            }
+        }
+    }
+    println!("{uses:?}");
+    for each in [
+        "guard that holds",
+        "guard that fails",
+        "constant",
+        "clock at the top",
+        "clock plus offset below 0",
+        "clock plus offset above the bound",
+        "clock at a whole value",
+        "clock between whole values",
+        "clock with the same part as another",
+    ] {
+        let times = uses.get(each).copied().unwrap_or(0);
+        assert!(times >= 100, "seed {seed}: {each} came {times} times");
+    }
+}
+
+/// The automaton with each '≠' made to hold always.
+fn freed(mut automaton: Automaton) -> Automaton {
+    for edge in &mut automaton.edges {
+        edge.guards.retain(|guard| guard.comparison != NotEqual);
+        for update in &mut edge.updates {
+            if update.comparison() == Some(NotEqual) {
+                *update = constant(AtLeast, 0);
+            }
+        }
+    }
+    automaton
+}
+
+/// Whether an answer would be another if '≠' always held.
+fn decides<A: PartialEq>(table: &[u8], answer: impl Fn(&[u8]) -> A) -> bool {
+    let freed = parse_table(table).map(|automaton| encode_table(&freed(automaton)));
+    freed.is_ok_and(|freed| answer(table) != answer(&freed))
+}
+
+/// In each call there are answers that '≠' decides.
+#[test]
+fn not_equal_decides_answers() {
+    let seed = seed(20_507);
+    println!("seed {seed}: {CASES} cases");
+    let mut decided = [0; 4];
+    for case in 0..CASES as u64 {
+        let mut random = Random::of_case(seed, case);
+        let table = admit_case(&mut random, LARGE_ONCE_IN);
+        decided[0] += usize::from(decides(&table, admit));
+        let pair = run_case(&mut random, LARGE_ONCE_IN);
+        decided[1] += usize::from(decides(&pair.table, |table| check_run(table, &pair.list)));
+        let pair = regions_case(&mut random, LARGE_ONCE_IN);
+        let checked = |table: &[u8]| check_regions(table, &pair.list);
+        decided[2] += usize::from(decides(&pair.table, checked));
+        let input = follow_case(&mut random, LARGE_ONCE_IN);
+        let followed = |table: &[u8]| {
+            let mut buffer = input.buffer.clone();
+            let answer = follow(table, &input.row, input.number, &mut buffer);
+            (answer, buffer)
+        };
+        decided[3] += usize::from(decides(&input.table, followed));
+    }
+    println!("admission, runs, region lists, following: {decided:?}");
+    let least = decided.into_iter().min();
+    assert!(least >= Some(100), "seed {seed}: {decided:?}");
 }

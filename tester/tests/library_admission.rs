@@ -3,7 +3,7 @@
 mod common;
 use common::*;
 
-use tzelmaruf_tester::automaton::{Automaton, Update};
+use tzelmaruf_tester::automaton::{Automaton, Comparison, Update};
 use tzelmaruf_tester::compare::Comparer;
 use tzelmaruf_tester::format::{encode_table, table_records};
 use tzelmaruf_tester::generate::damage::damage;
@@ -33,7 +33,7 @@ fn with_everything() -> Automaton {
         .map(|index| {
             guard(
                 index % 4,
-                tzelmaruf_tester::automaton::Comparison::ALL[index as usize % 5],
+                Comparison::ALL[usize::from(index) % Comparison::ALL.len()],
                 index % 3,
             )
         })

@@ -4,7 +4,7 @@ mod common;
 use common::*;
 
 use std::fmt;
-use tzelmaruf_tester::automaton::{Automaton, Comparison, Term, Update};
+use tzelmaruf_tester::automaton::{Automaton, Comparison, Update};
 use tzelmaruf_tester::compare::Comparer;
 use tzelmaruf_tester::concrete::ConcreteRun;
 use tzelmaruf_tester::explore::closure;
@@ -269,6 +269,7 @@ fn long_paths() {
             edges: 2 + random.below(10),
             greatest_bound: 1 + random.below(12) as u8,
             greatest_guards: 1,
+            comparisons: &Comparison::ALL,
         };
         let mut automaton = tables::admitted(&mut random, shape);
         let (path, end) = long_path(&mut random, &automaton, 500);
@@ -369,10 +370,7 @@ fn great_run(random: &mut Random, automaton: &Automaton) -> (Run, u8) {
 /// with; seldom one beside it.
 fn great_value(random: &mut Random, update: Update, own: usize, old: &[i64], scale: i64) -> u32 {
     let (comparison, term) = update.relation(own);
-    let term = match term {
-        Term::Constant(constant) => i64::from(constant) * scale,
-        Term::Clock { clock, offset } => old[clock] + i64::from(offset) * scale,
-    };
+    let term = term.value(old, scale);
     let greatest = i64::from(u32::MAX);
     let value = match comparison {
         Comparison::Less => (term - 1).min(greatest),

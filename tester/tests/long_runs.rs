@@ -4,7 +4,7 @@ mod common;
 use common::*;
 
 use tzelmaruf_tester::answer::Answer;
-use tzelmaruf_tester::automaton::Update;
+use tzelmaruf_tester::automaton::{Comparison, Update};
 use tzelmaruf_tester::concrete::ConcreteRun;
 use tzelmaruf_tester::explore::closure;
 use tzelmaruf_tester::format::encode_table;
@@ -26,6 +26,7 @@ fn long_paths_become_accepted_runs() {
             edges: 2 + random.below(10),
             greatest_bound: 1 + random.below(12) as u8,
             greatest_guards: 1,
+            comparisons: &Comparison::ALL,
         };
         let mut automaton = tables::admitted(&mut random, shape);
         let (path, end) = long_path(&mut random, &automaton, 600);

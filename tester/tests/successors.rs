@@ -5,7 +5,7 @@ mod common;
 use common::{automaton, clock, edge, hex};
 
 use std::collections::BTreeSet;
-use tzelmaruf_tester::automaton::{Automaton, Comparison, Edge, Term, Update};
+use tzelmaruf_tester::automaton::{Automaton, Comparison, Edge, Update};
 use tzelmaruf_tester::format::encode_table;
 use tzelmaruf_tester::generate::{rows, seed, tables, Random, Shape};
 use tzelmaruf_tester::region::{all_rows, region_of, Region};
@@ -27,6 +27,7 @@ fn small_case(random: &mut Random, clocks: usize) -> (Automaton, Region) {
         edges: 1,
         greatest_bound: [0, 4, 3, 3, 1][clocks],
         greatest_guards: 1,
+        comparisons: &Comparison::ALL,
     };
     let mut automaton = tables::admitted(random, shape);
     // Keep alone tells little; most updates are others.
@@ -223,10 +224,7 @@ fn pairs_of_points(automaton: &Automaton, edge: &Edge, row: Region, allows: Allo
 
 /// All values a little beyond the bound, and those around the term.
 fn candidates(bound: u8, update: Update, own: usize, old: &[i64], scale: i64) -> Vec<i64> {
-    let term = match update.relation(own).1 {
-        Term::Constant(constant) => i64::from(constant) * scale,
-        Term::Clock { clock, offset } => old[clock] + i64::from(offset) * scale,
-    };
+    let term = update.relation(own).1.value(old, scale);
     let near = (i64::from(bound) + 1) * scale;
     let around = (term - 1..=term + 1).filter(|value| *value > near);
     (0..=near).chain(around).collect()
@@ -257,6 +255,14 @@ fn clipping(automaton: &Automaton, edge: &Edge, row: Region) -> Vec<Region> {
             _ => update_allows(update, own, old, new[own], scale),
         },
     )
+}
+
+/// Takes '≠' for a comparison that always holds.
+fn leaving_nothing_out(automaton: &Automaton, edge: &Edge, row: Region) -> Vec<Region> {
+    pairs_of_points(automaton, edge, row, |update, clock, old, new, scale| {
+        let (comparison, _) = update.relation(clock);
+        comparison == Comparison::NotEqual || update_allows(update, clock, old, new[clock], scale)
+    })
 }
 
 /// Lets a later update read the result of an earlier one.
@@ -294,8 +300,9 @@ fn spoiled_ways_are_found_out() {
     if let Err(case) = compare(unspoiled, seed, 2, 2_000) {
         panic!("seed {seed}: {case}");
     }
-    let ways: [(&str, NextRowsOf); 5] = [
+    let ways: [(&str, NextRowsOf); 6] = [
         ("clipping", clipping),
+        ("leaving nothing out", leaving_nothing_out),
         ("reading results", reading_results),
         ("forgetting order", forgetting_order),
         ("descending", descending),

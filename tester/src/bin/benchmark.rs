@@ -95,6 +95,16 @@ fn of_locations(count: usize, bounds: &[u8], edges: Vec<Edge>) -> Automaton {
     }
 }
 
+/// The comparisons of the tables that were timed before there was '≠', so that they stay as
+/// they were.
+const BEFORE_NOT_EQUAL: &[Comparison] = &[
+    Comparison::Less,
+    Comparison::AtMost,
+    Comparison::Equal,
+    Comparison::AtLeast,
+    Comparison::Greater,
+];
+
 /// 64 locations and 256 edges that mostly keep or reset two clocks.
 fn typical() -> Automaton {
     let mut random = Random::new(30_601);
@@ -103,13 +113,13 @@ fn typical() -> Automaton {
         source: (number % 64) as u8,
         target: random.below(64) as u8,
         guards: (0..random.below(3))
-            .map(|_| tables::guard(&mut random, &bounds))
+            .map(|_| tables::guard_among(&mut random, &bounds, BEFORE_NOT_EQUAL))
             .collect(),
         updates: (0..2)
             .map(|own| match random.below(8) {
                 0..=2 => Update::Keep,
                 3..=6 => set(0),
-                _ => tables::changing_update(&mut random, &bounds, own),
+                _ => tables::changing_update_among(&mut random, &bounds, own, BEFORE_NOT_EQUAL),
             })
             .collect(),
     });
@@ -271,11 +281,15 @@ fn time_lists(repetitions: u32) {
 /// The largest table there is.
 fn time_admission(repetitions: u32) {
     let mut random = Random::new(30_604);
-    let mut largest = tables::admitted(&mut random, Shape::greatest());
+    let shape = Shape {
+        comparisons: BEFORE_NOT_EQUAL,
+        ..Shape::greatest()
+    };
+    let mut largest = tables::admitted(&mut random, shape);
     for edge in &mut largest.edges {
         while edge.guards.len() < GREATEST_GUARDS {
-            edge.guards
-                .push(tables::guard(&mut random, &largest.bounds));
+            let guard = tables::guard_among(&mut random, &largest.bounds, BEFORE_NOT_EQUAL);
+            edge.guards.push(guard);
         }
     }
     let mut table = encode_table(&largest);

@@ -4,7 +4,7 @@ use super::damage::damage;
 use super::random::Random;
 use super::tables::{self, Shape};
 use super::{lists, rows};
-use crate::automaton::Automaton;
+use crate::automaton::{Automaton, Guard, Update, GREATEST_GUARDS};
 use crate::explore::closure;
 use crate::follow::{next_rows, WAIT};
 use crate::format::encode_table;
@@ -148,11 +148,17 @@ const BUFFER_ROWS: usize = 600;
 
 /// A table, a row, a number and a buffer that is often just long enough or not.
 pub fn follow_case(random: &mut Random, large_once_in: usize) -> FollowCase {
-    let shape = Shape::biased(random, large_once_in);
+    let mut shape = Shape::biased(random, large_once_in);
+    let is_telling = random.once_in(2);
+    if is_telling {
+        // Between the low bounds of small tables few rows have fractional parts.
+        shape.clocks = shape.clocks.max(2 + random.below(2));
+        shape.greatest_bound = shape.greatest_bound.max(6);
+    }
     let mut automaton = tables::admitted(random, shape);
     let (row, number) = row_and_number(random, &automaton);
-    if random.once_in(2) {
-        change_updates(random, &mut automaton, number);
+    if is_telling {
+        make_telling(random, &mut automaton, row, number);
     }
     let length = row_length(automaton.clocks());
     let count = next_rows(&automaton, row, number).take(BUFFER_ROWS).count();
@@ -179,12 +185,40 @@ pub fn follow_case(random: &mut Random, large_once_in: usize) -> FollowCase {
     }
 }
 
-/// Takes keep out of the edge that is followed, for a more telling choice of rows.
-fn change_updates(random: &mut Random, automaton: &mut Automaton, number: u16) {
-    if let Some(edge) = automaton.edges.get_mut(usize::from(number)) {
-        for clock in 0..edge.updates.len() {
-            edge.updates[clock] = tables::changing_update(random, &automaton.bounds, clock);
-        }
+/// Takes keep out of the edge that is followed, for a more telling choice of rows, and now and
+/// then adds a guard.
+fn make_telling(random: &mut Random, automaton: &mut Automaton, row: Region, number: u16) {
+    let bounds = &automaton.bounds;
+    let Some(edge) = automaton.edges.get_mut(usize::from(number)) else {
+        return;
+    };
+    for (own, update) in edge.updates.iter_mut().enumerate() {
+        *update = telling_update(random, bounds, own);
+    }
+    if edge.guards.len() < GREATEST_GUARDS && random.once_in(6) {
+        edge.guards.push(telling_guard(random, bounds, row));
+    }
+}
+
+/// Often with the least offset: what is compared then lies below the bound, or below 0.
+fn telling_update(random: &mut Random, bounds: &[u8], own: usize) -> Update {
+    match tables::changing_update(random, bounds, own) {
+        Update::Clock { clock, .. } if random.once_in(2) => Update::Clock {
+            comparison: tables::comparison(random),
+            clock,
+            offset: tables::least_offset(bounds, own, usize::from(clock)),
+        },
+        update => update,
+    }
+}
+
+/// A clock against the whole value that it has in the row, or that is the last below.
+fn telling_guard(random: &mut Random, bounds: &[u8], row: Region) -> Guard {
+    let clock = random.below(bounds.len());
+    Guard {
+        clock: clock as u8,
+        comparison: tables::comparison(random),
+        constant: row.interval(clock) / 2,
     }
 }
 

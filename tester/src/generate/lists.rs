@@ -2,7 +2,7 @@
 
 use super::random::Random;
 use super::rows;
-use crate::automaton::{Automaton, Comparison, Edge, Term, Update};
+use crate::automaton::{Automaton, Comparison, Edge, Update};
 use crate::explore::closure_from;
 use crate::region::Region;
 use crate::run::{guards_hold, Run, Step, GREATEST_SCALE};
@@ -85,10 +85,7 @@ pub fn allowed_value(
     scale: i64,
 ) -> Option<i64> {
     let (comparison, term) = update.relation(own);
-    let term = match term {
-        Term::Constant(constant) => i64::from(constant) * scale,
-        Term::Clock { clock, offset } => old[clock] + i64::from(offset) * scale,
-    };
+    let term = term.value(old, scale);
     let far = term.max(0) + 3 * scale;
     let (least, most) = match comparison {
         Comparison::Less => (0, term - 1),
@@ -109,12 +106,15 @@ pub fn allowed_value(
     Some(value + i64::from(!comparison.holds(value.cmp(&term))))
 }
 
-/// Spoils a run in one field.
+/// Spoils a run in one field, or puts a clock where '≠' and '=' differ.
 pub fn spoil_run(random: &mut Random, automaton: &Automaton, run: &mut Run) {
     if run.steps.is_empty() {
         return;
     }
     let index = random.below(run.steps.len());
+    if random.once_in(4) {
+        return put_to_the_term(random, automaton, run, index);
+    }
     let edges = automaton.edges.len();
     let scale = u32::from(run.scale);
     let step = &mut run.steps[index];
@@ -132,6 +132,28 @@ pub fn spoil_run(random: &mut Random, automaton: &Automaton, run: &mut Run) {
                 _ => random.draw() as u32,
             };
         }
+    }
+}
+
+/// Brings a clock of a step just to what a guard or its update compares it with.
+fn put_to_the_term(random: &mut Random, automaton: &Automaton, run: &mut Run, index: usize) {
+    let scale = i64::from(run.scale);
+    let values = |step: &Step| step.values.iter().map(|value| i64::from(*value)).collect();
+    let old: Vec<i64> = match index {
+        0 => vec![0; automaton.clocks()],
+        _ => values(&run.steps[index - 1]),
+    };
+    let step = &mut run.steps[index];
+    let edge = &automaton.edges[usize::from(step.edge)];
+    if !edge.guards.is_empty() && random.once_in(2) {
+        let guard = random.pick(&edge.guards);
+        let missing = i64::from(guard.constant) * scale - old[usize::from(guard.clock)];
+        step.delay = missing.max(0) as u32;
+    } else {
+        let clock = random.below(old.len());
+        let waited: Vec<i64> = old.iter().map(|v| v + i64::from(step.delay)).collect();
+        let term = edge.updates[clock].relation(clock).1.value(&waited, scale);
+        step.values[clock] = term.max(0) as u32;
     }
 }
 

@@ -27,8 +27,8 @@ pub fn point(random: &mut Random, bounds: &[u8], scale: i64) -> Vec<i64> {
             let whole = random.between(0, bound) * scale;
             match random.below(6) {
                 0 => whole,
-                1 => whole + shared,
-                2 => bound * scale + random.between(1, scale),
+                1 | 2 => whole + shared,
+                3 => bound * scale + random.between(1, scale),
                 _ => whole + random.between(0, scale - 1),
             }
         })

@@ -11,6 +11,8 @@ pub struct Shape {
     pub edges: usize,
     pub greatest_bound: u8,
     pub greatest_guards: usize,
+    /// The comparisons that its guards and updates have.
+    pub comparisons: &'static [Comparison],
 }
 
 impl Shape {
@@ -23,6 +25,7 @@ impl Shape {
             edges: random.below(3 * locations + 2),
             greatest_bound: random.below(4) as u8,
             greatest_guards: 2,
+            comparisons: &Comparison::ALL,
         }
     }
 
@@ -34,6 +37,7 @@ impl Shape {
             edges: random.below(GREATEST_EDGES + 1),
             greatest_bound: random.below(usize::from(GREATEST_BOUND) + 1) as u8,
             greatest_guards: GREATEST_GUARDS,
+            comparisons: &Comparison::ALL,
         }
     }
 
@@ -45,6 +49,7 @@ impl Shape {
             edges: GREATEST_EDGES,
             greatest_bound: GREATEST_BOUND,
             greatest_guards: GREATEST_GUARDS,
+            comparisons: &Comparison::ALL,
         }
     }
 
@@ -94,45 +99,61 @@ fn edge(random: &mut Random, shape: Shape, bounds: &[u8]) -> Edge {
     Edge {
         source: random.below(shape.locations) as u8,
         target: random.below(shape.locations) as u8,
-        guards: (0..guards).map(|_| guard(random, bounds)).collect(),
+        guards: (0..guards)
+            .map(|_| guard_among(random, bounds, shape.comparisons))
+            .collect(),
         updates: (0..bounds.len())
-            .map(|own| update(random, bounds, own))
+            .map(|own| update(random, bounds, own, shape.comparisons))
             .collect(),
     }
 }
 
 pub fn comparison(random: &mut Random) -> Comparison {
-    // '≠' is left out until the checker takes it.
-    random.pick(&Comparison::ALL[..5])
+    random.pick(&Comparison::ALL)
 }
 
 pub fn guard(random: &mut Random, bounds: &[u8]) -> Guard {
+    guard_among(random, bounds, &Comparison::ALL)
+}
+
+/// A guard with one of the comparisons.
+pub fn guard_among(random: &mut Random, bounds: &[u8], comparisons: &[Comparison]) -> Guard {
     let clock = random.below(bounds.len());
     Guard {
         clock: clock as u8,
-        comparison: comparison(random),
+        comparison: random.pick(comparisons),
         constant: random.below(usize::from(bounds[clock]) + 1) as u8,
     }
 }
 
 /// An update of `own` that keeps the bound rule.
-pub fn update(random: &mut Random, bounds: &[u8], own: usize) -> Update {
+fn update(random: &mut Random, bounds: &[u8], own: usize, comparisons: &[Comparison]) -> Update {
     match random.below(5) {
         0 | 1 => Update::Keep,
-        _ => changing_update(random, bounds, own),
+        _ => changing_update_among(random, bounds, own, comparisons),
     }
 }
 
 /// An update other than keep.
 pub fn changing_update(random: &mut Random, bounds: &[u8], own: usize) -> Update {
+    changing_update_among(random, bounds, own, &Comparison::ALL)
+}
+
+/// An update with one of the comparisons, or with '='.
+pub fn changing_update_among(
+    random: &mut Random,
+    bounds: &[u8],
+    own: usize,
+    comparisons: &[Comparison],
+) -> Update {
     match random.below(2) {
         0 => Update::Constant {
-            comparison: update_comparison(random),
+            comparison: update_comparison(random, comparisons),
             constant: random.below(usize::from(bounds[own]) + 1) as u8,
         },
         _ => {
             let clock = random.below(bounds.len());
-            let least = i64::from(bounds[own]) - i64::from(bounds[clock]);
+            let least = i64::from(least_offset(bounds, own, clock));
             // Offsets close to the least are the telling ones: further up all
             // that is compared lies above the bound.
             let most = match random.once_in(6) {
@@ -140,7 +161,7 @@ pub fn changing_update(random: &mut Random, bounds: &[u8], own: usize) -> Update
                 false => (least + 2).min(127),
             };
             Update::Clock {
-                comparison: update_comparison(random),
+                comparison: update_comparison(random, comparisons),
                 clock: clock as u8,
                 offset: random.between(least, most) as i16,
             }
@@ -148,11 +169,16 @@ pub fn changing_update(random: &mut Random, bounds: &[u8], own: usize) -> Update
     }
 }
 
+/// The least offset that the bound rule permits for an update of `own` from `clock`.
+pub fn least_offset(bounds: &[u8], own: usize, clock: usize) -> i16 {
+    i16::from(bounds[own]) - i16::from(bounds[clock])
+}
+
 /// '=' more often than the others, as it keeps the number of next rows low.
-fn update_comparison(random: &mut Random) -> Comparison {
+fn update_comparison(random: &mut Random, comparisons: &[Comparison]) -> Comparison {
     match random.once_in(3) {
         true => Comparison::Equal,
-        false => comparison(random),
+        false => random.pick(comparisons),
     }
 }
 
@@ -197,7 +223,7 @@ fn break_edge(random: &mut Random, edge: &mut Edge, bounds: &[u8]) {
         }
         _ => {
             let other = random.below(bounds.len());
-            let least = i64::from(bounds[clock]) - i64::from(bounds[other]);
+            let least = i64::from(least_offset(bounds, clock, other));
             let most = (least - 1).max(-127);
             edge.updates[clock] = Update::Clock {
                 comparison: comparison(random),

@@ -16,7 +16,7 @@
 //! tried no further than one above its own bound and one above what it is
 //! compared with.
 
-use crate::automaton::{Automaton, Edge, Term, Update};
+use crate::automaton::{Automaton, Edge, Update};
 use crate::region::{is_whole, region_of, top, Region};
 use crate::run::{guards_hold, update_allows};
 use std::collections::{BTreeSet, HashSet};
@@ -86,10 +86,7 @@ fn allowed_values(
     scale: i64,
 ) -> Vec<i64> {
     let bound = i64::from(automaton.bounds[own]) * scale;
-    let compared = match update.relation(own).1 {
-        Term::Constant(constant) => i64::from(constant) * scale,
-        Term::Clock { clock, offset } => old[clock] + i64::from(offset) * scale,
-    };
+    let compared = update.relation(own).1.value(old, scale);
     let last = bound.max(compared) + scale;
     let allowed = |new: &i64| update_allows(update, own, old, *new, scale);
     let mut values: Vec<i64> = (0..=bound).filter(allowed).collect();
