@@ -141,33 +141,40 @@ fn largest_table() {
     comparer.finish_with_positions(OF_ADMISSION, &[1, 3, 5, 6]);
 }
 
-/// Guards, constants and offsets right at the bounds and one beyond, in range or not.
+/// Guards, constants and offsets right at the bounds and one beyond, in range or not, by every
+/// comparison.
 #[test]
 fn bound_rules_at_their_limits() {
     let mut comparer = Comparer::new("bound rules");
     let bounds = [0, 1, 2, 63, 64, 126, 127];
     for own in bounds {
         for other in bounds {
-            let with = |guards: &[_], update| {
-                let edges = vec![edge(0, 0, guards, &[update, Update::Keep])];
-                encode_table(&automaton(&[own, other], &[false], edges))
-            };
-            for constant_value in [0, own.saturating_sub(1), own, own + 1, 127, 128, 255] {
-                let case = format_args!("bound {own} constant {constant_value}");
-                let guards = [guard(0, Less, constant_value)];
-                comparer.admit(case, &with(&guards, Update::Keep));
-                comparer.admit(case, &with(&[], constant(Less, constant_value)));
-            }
-            let least = i16::from(own) - i16::from(other);
-            let offsets = [least - 1, least, least + 1, -128, -127, 0, 127, 128];
-            for offset in offsets.into_iter().chain([i16::MIN, i16::MAX]) {
-                let case = format_args!("bounds {own} {other} offset {offset}");
-                comparer.admit(case, &with(&[], clock(Greater, 1, offset)));
-                comparer.admit(case, &with(&[], clock(Greater, 0, offset)));
+            for comparison in Comparison::ALL {
+                bound_rules_of(&mut comparer, comparison, own, other);
             }
         }
     }
     comparer.finish(&[0, 3, 5, 6]);
+}
+
+fn bound_rules_of(comparer: &mut Comparer, comparison: Comparison, own: u8, other: u8) {
+    let with = |guards: &[_], update| {
+        let edges = vec![edge(0, 0, guards, &[update, Update::Keep])];
+        encode_table(&automaton(&[own, other], &[false], edges))
+    };
+    for constant_value in [0, own.saturating_sub(1), own, own + 1, 127, 128, 255] {
+        let case = format_args!("{comparison:?} bound {own} constant {constant_value}");
+        let guards = [guard(0, comparison, constant_value)];
+        comparer.admit(case, &with(&guards, Update::Keep));
+        comparer.admit(case, &with(&[], constant(comparison, constant_value)));
+    }
+    let least = i16::from(own) - i16::from(other);
+    let offsets = [least - 1, least, least + 1, -128, -127, 0, 127, 128];
+    for offset in offsets.into_iter().chain([i16::MIN, i16::MAX]) {
+        let case = format_args!("{comparison:?} bounds {own} {other} offset {offset}");
+        comparer.admit(case, &with(&[], clock(comparison, 1, offset)));
+        comparer.admit(case, &with(&[], clock(comparison, 0, offset)));
+    }
 }
 
 /// Empty files, files of another kind, files of a megabyte.

@@ -351,11 +351,13 @@ fn edges_to_nearly_all_rows() {
     for bounds in [&[5][..], &[2, 1], &[1, 1, 1], &[1, 0, 1, 0], &[1, 1, 1, 1]] {
         let updates = |random: &mut Random| -> Vec<Update> {
             (0..bounds.len())
-                .map(|own| match random.below(4) {
+                .map(|own| match random.below(6) {
                     0 => constant(AtLeast, 0),
                     1 => constant(AtMost, bounds[own]),
-                    2 => clock(AtLeast, own as u8, 0),
-                    _ => clock(Greater, own as u8, 0),
+                    2 => constant(NotEqual, bounds[own]),
+                    3 => clock(AtLeast, own as u8, 0),
+                    4 => clock(Greater, own as u8, 0),
+                    _ => clock(NotEqual, own as u8, 0),
                 })
                 .collect()
         };

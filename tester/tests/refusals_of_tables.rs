@@ -5,7 +5,7 @@ mod common;
 use common::*;
 
 use tzelmaruf_tester::answer::Answer;
-use tzelmaruf_tester::automaton::{Automaton, Update};
+use tzelmaruf_tester::automaton::{Automaton, Comparison, Update};
 use tzelmaruf_tester::format::{encode_table, table_records};
 use tzelmaruf_tester::{admit, check_regions, check_run, follow};
 
@@ -223,22 +223,32 @@ fn refusal_4_bytes_behind() {
 
 /// The sound table with one edge's guard or update replaced.
 fn with_fault(edge: usize, fault: u8) -> Automaton {
+    with_fault_by(Less, edge, fault, 0)
+}
+
+/// The same by any comparison; a relief of 1 takes it right to the bound, where it is no fault.
+fn with_fault_by(comparison: Comparison, edge: usize, fault: u8, relief: u8) -> Automaton {
     let mut faulty = sound();
     let edge = &mut faulty.edges[edge];
     match fault {
-        0 => edge.guards.push(guard(1, Less, 3)),
-        1 => edge.updates[1] = constant(Less, 3),
-        _ => edge.updates[0] = clock(Greater, 1, 0),
+        0 => edge.guards.push(guard(1, comparison, 3 - relief)),
+        1 => edge.updates[1] = constant(comparison, 3 - relief),
+        _ => edge.updates[0] = clock(comparison, 1, i16::from(relief)),
     }
     faulty
 }
 
 #[test]
 fn refusals_5_and_6_at_each_edge() {
-    for (edge, place) in [(0, 4), (1, 5), (2, 6)] {
-        assert_answer(&encode_table(&with_fault(edge, 0)), refused(5, place));
-        assert_answer(&encode_table(&with_fault(edge, 1)), refused(5, place));
-        assert_answer(&encode_table(&with_fault(edge, 2)), refused(6, place));
+    for comparison in Comparison::ALL {
+        for (edge, place) in [(0, 4), (1, 5), (2, 6)] {
+            for (fault, number) in [(0, 5), (1, 5), (2, 6)] {
+                let faulty = with_fault_by(comparison, edge, fault, 0);
+                assert_answer(&encode_table(&faulty), refused(number, place));
+                let at_the_bound = with_fault_by(comparison, edge, fault, 1);
+                assert_answer(&encode_table(&at_the_bound), Answer::Accepted(7));
+            }
+        }
     }
 }
 

@@ -2,7 +2,7 @@
 //! same comparison against spoiled ways, which it has to find out.
 
 mod common;
-use common::{automaton, clock, edge, hex};
+use common::{all_updates, automaton, clock, comparisons_of_open_clocks, edge, hex};
 
 use std::collections::BTreeSet;
 use tzelmaruf_tester::automaton::{Automaton, Comparison, Edge, Update};
@@ -89,26 +89,6 @@ fn four_clocks() {
     assert_equal_to_points(seed(20_104), 4, 1_500);
 }
 
-/// All updates of a clock that the bound rule permits, offsets up to two above the least.
-fn all_updates(bounds: &[u8], own: usize) -> Vec<Update> {
-    let mut updates = vec![Update::Keep];
-    for comparison in Comparison::ALL {
-        updates.extend((0..=bounds[own]).map(|constant| Update::Constant {
-            comparison,
-            constant,
-        }));
-        for (clock, bound) in bounds.iter().enumerate() {
-            let least = i16::from(bounds[own]) - i16::from(*bound);
-            updates.extend((least..=least + 2).map(|offset| Update::Clock {
-                comparison,
-                clock: clock as u8,
-                offset,
-            }));
-        }
-    }
-    updates
-}
-
 fn assert_equal_from(automaton: &Automaton, row: Region) -> usize {
     let edge = &automaton.edges[0];
     let expected = by_points(automaton, edge, row);
@@ -150,26 +130,13 @@ fn all_updates_of_two_clocks() {
     println!("no seed, all: {edges} edges of 2 clocks, {rows} rows");
 }
 
-/// Three clocks between 0 and 1 in every order, each compared in every way with
-/// any of the three: here the old order bears most on the new one. Which clock
-/// has which rank makes no difference, so ascending ranks stand for all.
 #[test]
 fn all_comparisons_of_three_open_clocks() {
     let (mut edges, mut rows) = (0, 0);
-    let mut automaton = automaton(&[1, 1, 1], &[false], vec![edge(0, 0, &[], &[])]);
-    let updates: Vec<Update> = Comparison::ALL
-        .into_iter()
-        .flat_map(|comparison| (0..3).map(move |other| clock(comparison, other, 0)))
-        .collect();
-    let count = updates.len();
-    for index in 0..count.pow(3) {
-        let chosen = [index % count, index / count % count, index / count.pow(2)];
-        automaton.edges[0].updates = chosen.iter().map(|each| updates[*each]).collect();
-        for ranks in [[1, 1, 1], [1, 1, 2], [1, 2, 2], [1, 2, 3]] {
-            rows += assert_equal_from(&automaton, Region::new(0, &[1, 1, 1], &ranks));
-            edges += 1;
-        }
-    }
+    comparisons_of_open_clocks(&mut |automaton, row| {
+        rows += assert_equal_from(automaton, row);
+        edges += 1;
+    });
     println!("no seed, all: {edges} edges of 3 open clocks, {rows} rows");
 }
 

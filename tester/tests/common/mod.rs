@@ -76,6 +76,45 @@ pub fn bytes(text: &str) -> Vec<u8> {
         .collect()
 }
 
+/// All updates of a clock that the bound rule permits, offsets up to two above the least.
+pub fn all_updates(bounds: &[u8], own: usize) -> Vec<Update> {
+    let mut updates = vec![Update::Keep];
+    for comparison in Comparison::ALL {
+        updates.extend((0..=bounds[own]).map(|constant| Update::Constant {
+            comparison,
+            constant,
+        }));
+        for (clock, bound) in bounds.iter().enumerate() {
+            let least = i16::from(bounds[own]) - i16::from(*bound);
+            updates.extend((least..=least + 2).map(|offset| Update::Clock {
+                comparison,
+                clock: clock as u8,
+                offset,
+            }));
+        }
+    }
+    updates
+}
+
+/// Three clocks between 0 and 1 in every order, each compared in every way with
+/// any of the three: here the old order bears most on the new one. Which clock
+/// has which rank makes no difference, so ascending ranks stand for all.
+pub fn comparisons_of_open_clocks(visit: &mut dyn FnMut(&Automaton, Region)) {
+    let mut automaton = automaton(&[1, 1, 1], &[false], vec![edge(0, 0, &[], &[])]);
+    let updates: Vec<Update> = Comparison::ALL
+        .into_iter()
+        .flat_map(|comparison| (0..3).map(move |other| clock(comparison, other, 0)))
+        .collect();
+    let count = updates.len();
+    for index in 0..count.pow(3) {
+        let chosen = [index % count, index / count % count, index / count.pow(2)];
+        automaton.edges[0].updates = chosen.iter().map(|each| updates[*each]).collect();
+        for ranks in [[1, 1, 1], [1, 1, 2], [1, 2, 2], [1, 2, 3]] {
+            visit(&automaton, Region::new(0, &[1, 1, 1], &ranks));
+        }
+    }
+}
+
 /// One final location, and in half the cases a chain of guarded edges as the
 /// only way to it, so that some runs are long.
 pub fn far_automaton(random: &mut Random) -> Automaton {
