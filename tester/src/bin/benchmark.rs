@@ -247,6 +247,45 @@ fn two_kept(bounds: &[u8]) -> Automaton {
     })
 }
 
+/// Clocks against constants and against themselves, always by '≠': an edge leads from each row to nearly
+/// all rows.
+fn all_but_one(bounds: &[u8]) -> Automaton {
+    altered(bounds, |own, update| {
+        *update = match *update {
+            Update::Constant {
+                comparison: Comparison::AtLeast,
+                ..
+            } => against_itself(own, Comparison::NotEqual, 0),
+            Update::Constant { constant, .. } => Update::Constant {
+                comparison: Comparison::NotEqual,
+                constant,
+            },
+            other => other,
+        }
+    })
+}
+
+/// No clock stays as it was: an edge leads from each row to nearly all rows, and never only to such as
+/// it leads to from another row, whatever the order in which rows are taken.
+fn all_changed(bounds: &[u8]) -> Automaton {
+    altered(bounds, |own, update| {
+        *update = against_itself(own, Comparison::NotEqual, 0)
+    })
+}
+
+/// No clock becomes what the next one was: as before, and fractional parts are compared with those of
+/// other clocks.
+fn none_alike(bounds: &[u8]) -> Automaton {
+    altered(bounds, |own, update| {
+        let next = (own + 1) % bounds.len();
+        *update = Update::Clock {
+            comparison: Comparison::NotEqual,
+            clock: next as u8,
+            offset: tables::least_offset(bounds, own, next),
+        }
+    })
+}
+
 /// The list of all rows that are reached.
 fn time_closure(name: &str, effort: Effort, automaton: &Automaton) {
     let found = closure(automaton, 4_096);
@@ -269,6 +308,10 @@ fn time_lists(repetitions: u32) {
         ("no clock goes down", none_down(&broad)),
         ("up by one at most", up_by_one(&broad)),
         ("read in vain", read_in_vain(&broad)),
+        ("≠ constants and clocks", all_but_one(&narrow)),
+        ("≠ constants and clocks", all_but_one(&broad)),
+        ("≠ itself", all_changed(&broad)),
+        ("≠ another clock", none_alike(&narrow)),
     ] {
         let rows = all_rows(&automaton, 4_096).expect("the rows fit in a list");
         time_list(name, effort(1), &automaton, &rows);
