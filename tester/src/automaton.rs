@@ -174,6 +174,11 @@ impl Automaton {
         self.locations[usize::from(location)].is_final
     }
 
+    /// Whether some edge has the comparison.
+    pub fn has(&self, comparison: Comparison) -> bool {
+        self.edges.iter().any(|edge| edge.has(comparison))
+    }
+
     /// The number of records its file has: header, locations, edges.
     pub fn records(&self) -> usize {
         1 + self.locations.len() + self.edges.len()

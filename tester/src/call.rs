@@ -2,7 +2,9 @@
 //! written to a file and read back.
 
 use crate::answer::hex;
+use crate::automaton::Comparison;
 use crate::compare::{self, Compared};
+use crate::format::parse_table;
 use crate::generate::damage::damage;
 use crate::generate::{admit_case, follow_case, regions_case, run_case, PairCase, Random};
 use crate::library::REFUSED;
@@ -124,6 +126,11 @@ impl Input {
             5 => self.table = damage(random, &self.table, &self.second),
             _ => {}
         }
+    }
+
+    /// Whether its table can be read and has '≠' in an edge.
+    pub fn has_not_equal(&self) -> bool {
+        parse_table(&self.table).is_ok_and(|automaton| automaton.has(Comparison::NotEqual))
     }
 
     /// The answer on which both sides agree, or the report.

@@ -148,7 +148,7 @@ fn line(cells: [String; 5]) -> String {
 }
 
 /// A number with a comma before each three digits.
-fn grouped(number: u64) -> String {
+pub fn grouped(number: u64) -> String {
     match number {
         0..=999 => number.to_string(),
         _ => format!("{},{:03}", grouped(number / 1_000), number % 1_000),

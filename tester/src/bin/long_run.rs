@@ -17,7 +17,7 @@ use tzelmaruf_tester::call::{Call, Input};
 use tzelmaruf_tester::generate::{seed, Random};
 use tzelmaruf_tester::guarded::{report_touched_pages, trying};
 use tzelmaruf_tester::rooms::{Rooms, Side};
-use tzelmaruf_tester::tally::Tally;
+use tzelmaruf_tester::tally::{grouped, Tally};
 
 const USUAL_CASES: u64 = 2_000_000;
 const USUAL_SEED: u64 = 30_501;
@@ -46,6 +46,8 @@ fn input_of(call: Call, seed: u64, case: u64) -> Input {
 /// What came of the cases of one call so far.
 struct Outcome {
     tally: Tally,
+    /// The answers where the table has '≠' in it.
+    tally_of_not_equal: Tally,
     differences: u64,
     longest_table: usize,
     longest_second: usize,
@@ -56,6 +58,7 @@ impl Outcome {
     fn new() -> Outcome {
         Outcome {
             tally: Tally::default(),
+            tally_of_not_equal: Tally::default(),
             differences: 0,
             longest_table: 0,
             longest_second: 0,
@@ -71,7 +74,12 @@ impl Outcome {
         self.longest_second = self.longest_second.max(input.second.len());
         let side = Side::BOTH[case as usize % 2];
         match input.compare_in(rooms, side) {
-            Ok(met) => self.tally.count(met.number, met.position),
+            Ok(met) => {
+                self.tally.count(met.number, met.position);
+                if input.has_not_equal() {
+                    self.tally_of_not_equal.count(met.number, met.position);
+                }
+            }
             Err(report) => {
                 self.differences += 1;
                 if self.differences <= SHOWN {
@@ -84,6 +92,12 @@ impl Outcome {
 
     fn report(&self, call: Call) {
         println!("{}", self.tally.table(call.with_places()));
+        let accepted = self.tally_of_not_equal.of_number(0);
+        println!(
+            "with '≠' in the table: {} cases, {} of them accepted",
+            grouped(self.tally_of_not_equal.cases()),
+            grouped(accepted)
+        );
         println!(
             "longest table {} bytes, longest paper or row {} bytes",
             self.longest_table, self.longest_second
@@ -127,9 +141,16 @@ fn keep(input: &Input, seed: u64, case: u64) {
     }
 }
 
-/// What never came of a call's numbers and places; 0 if nothing is missing.
-fn missing(call: Call, tally: &Tally) -> usize {
-    let gaps = tally.gaps(call.numbers(), call.with_places());
+/// What never came of a call's numbers and places, or never with '≠' in the table; 0 if nothing is
+/// missing. Refusals 1 to 4 come before a table is read, so that nobody knows its comparisons.
+fn missing(call: Call, outcome: &Outcome) -> usize {
+    let mut gaps = outcome.tally.gaps(call.numbers(), call.with_places());
+    let readable = call.numbers().iter().copied();
+    let readable: Vec<u8> = readable
+        .filter(|number| !(1..=4).contains(number))
+        .collect();
+    let never = outcome.tally_of_not_equal.gaps(&readable, &[]);
+    gaps.extend(never.iter().map(|gap| format!("{gap} with '≠'")));
     for gap in &gaps {
         println!("{}: never {gap}", call.name());
     }
@@ -144,7 +165,7 @@ fn long_run(calls: &[Call], cases: u64) -> u8 {
     for call in calls {
         let outcome = run_call(*call, seed, cases);
         differences += outcome.differences;
-        gaps += missing(*call, &outcome.tally);
+        gaps += missing(*call, &outcome);
         println!();
     }
     println!("{differences} differences, {gaps} numbers or places that never came");
