@@ -1,7 +1,7 @@
 // The six comparisons: one table, which guards, run values, region moves and the order of rows all ask.
 ghost use mathlib.Core.Path.{_≡_};
 ghost use lib.Dec.{ltb};
-ghost use Rattle.automata.specs.Comparison.{comparisons, equal, place, answer, holds, some-answer, at-alone};
+ghost use Rattle.automata.specs.Comparison.{comparisons, place, answer, holds, some-answer, at-alone};
 ghost use Prim.Native.Nat.{compare, Ordering·lt, Ordering·eq, Ordering·gt};
 
 // Rows: 0 <, 1 ≤, 2 =, 3 ≥, 4 >, 5 ≠. Columns: the answer for below, at and above.
