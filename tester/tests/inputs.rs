@@ -1,7 +1,12 @@
 //! Inputs of the calls as text: what is written is read back, and what is no
 //! input is refused.
 
+mod common;
+use common::{automaton, clock, constant, edge, guard, Equal, NotEqual};
+
+use tzelmaruf_tester::automaton::{Guard, Update};
 use tzelmaruf_tester::call::{Call, Input};
+use tzelmaruf_tester::format::encode_table;
 use tzelmaruf_tester::generate::{seed, Random};
 use tzelmaruf_tester::tally::{Position, Tally};
 
@@ -46,4 +51,22 @@ fn gaps_are_named() {
     tally.count(3, Position::Middle);
     tally.count(4, Position::First);
     assert!(tally.gaps(&[0, 3, 4], &[3]).is_empty());
+}
+
+/// The long run counts the tables with '≠' by this; one that cannot be read is none of them.
+#[test]
+fn not_equal_is_found_in_tables() {
+    let has = |guards: &[Guard], update: Update, cut: usize| {
+        let step = edge(0, 0, guards, &[constant(Equal, 0), update]);
+        let mut table = encode_table(&automaton(&[1, 1], &[false], vec![step]));
+        table.truncate(table.len() - cut);
+        let mut input = Input::random(Call::Admission, &mut Random::new(1));
+        input.table = table;
+        input.has_not_equal()
+    };
+    assert!(has(&[guard(1, NotEqual, 0)], Update::Keep, 0));
+    assert!(has(&[], constant(NotEqual, 0), 0));
+    assert!(has(&[], clock(NotEqual, 0, 0), 0));
+    assert!(!has(&[guard(1, Equal, 0)], clock(Equal, 0, 0), 0));
+    assert!(!has(&[], constant(NotEqual, 0), 1));
 }
