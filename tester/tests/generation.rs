@@ -290,13 +290,10 @@ type Decided = BTreeMap<(&'static str, &'static str), usize>;
 fn count_decided<A: PartialEq>(
     decided: &mut Decided,
     call: &'static str,
-    table: &[u8],
+    automaton: &Automaton,
     answer: impl Fn(&[u8]) -> A,
 ) {
-    let Ok(automaton) = parse_table(table) else {
-        return;
-    };
-    let given = answer(table);
+    let given = answer(&encode_table(automaton));
     for (place, free) in FREEING {
         let mut freed = automaton.clone();
         freed.edges.iter_mut().for_each(free);
@@ -314,21 +311,29 @@ fn not_equal_decides_answers() {
     for case in 0..CASES as u64 {
         let mut random = Random::of_case(seed, case);
         let table = admit_case(&mut random, LARGE_ONCE_IN);
-        count_decided(&mut decided, "admission", &table, admit);
+        if let Ok(automaton) = parse_table(&table) {
+            count_decided(&mut decided, "admission", &automaton, admit);
+        }
+        // The other calls are asked only about tables that they look at the paper for.
         let pair = run_case(&mut random, LARGE_ONCE_IN);
-        count_decided(&mut decided, "run", &pair.table, |table| {
-            check_run(table, &pair.list)
-        });
+        if let Ok(automaton) = admitted(&pair.table) {
+            let checked = |table: &[u8]| check_run(table, &pair.list);
+            count_decided(&mut decided, "run", &automaton, checked);
+        }
         let pair = regions_case(&mut random, LARGE_ONCE_IN);
-        count_decided(&mut decided, "region list", &pair.table, |table| {
-            check_regions(table, &pair.list)
-        });
+        if let Ok(automaton) = admitted(&pair.table) {
+            let checked = |table: &[u8]| check_regions(table, &pair.list);
+            count_decided(&mut decided, "region list", &automaton, checked);
+        }
         let input = follow_case(&mut random, LARGE_ONCE_IN);
-        count_decided(&mut decided, "following", &input.table, |table| {
-            let mut buffer = input.buffer.clone();
-            let answer = follow(table, &input.row, input.number, &mut buffer);
-            (answer, buffer)
-        });
+        if let Ok(automaton) = admitted(&input.table) {
+            let followed = |table: &[u8]| {
+                let mut buffer = input.buffer.clone();
+                let answer = follow(table, &input.row, input.number, &mut buffer);
+                (answer, buffer)
+            };
+            count_decided(&mut decided, "following", &automaton, followed);
+        }
     }
     println!("{decided:?}");
     let least = decided.values().min();
