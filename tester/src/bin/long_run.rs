@@ -7,8 +7,8 @@
 //!
 //! It prints the answers by number and by place, and writes each of the first
 //! cases on which the two sides differ to a file. Its exit status is 0 only if
-//! no case differs and every number came at every place it can have, and with '≠'
-//! in the table.
+//! no case differs and every number came at every place it can have, and every
+//! number but 1 to 4 with '≠' in the table too.
 //! `TZELMARUF_SEED` sets another seed.
 
 use std::path::PathBuf;
