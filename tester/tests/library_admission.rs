@@ -168,7 +168,7 @@ fn bound_rules_of(comparer: &mut Comparer, comparison: Comparison, own: u8, othe
         comparer.admit(case, &with(&guards, Update::Keep));
         comparer.admit(case, &with(&[], constant(comparison, constant_value)));
     }
-    let least = i16::from(own) - i16::from(other);
+    let least = tables::least_offset(&[own, other], 0, 1);
     let offsets = [least - 1, least, least + 1, -128, -127, 0, 127, 128];
     for offset in offsets.into_iter().chain([i16::MIN, i16::MAX]) {
         let case = format_args!("{comparison:?} bounds {own} {other} offset {offset}");

@@ -11,6 +11,7 @@ use tzelmaruf_tester::automaton::{Automaton, Comparison, Guard, Update};
 use tzelmaruf_tester::compare::{wide, Comparer, Met};
 use tzelmaruf_tester::explore::closure;
 use tzelmaruf_tester::format::{encode_table, table_records};
+use tzelmaruf_tester::generate::tables;
 use tzelmaruf_tester::region::{all_rows, row_length, top, Region};
 use tzelmaruf_tester::region_list::encode_regions;
 use tzelmaruf_tester::run::encode_run;
@@ -387,7 +388,7 @@ fn not_equal_is_free_at_the_top_and_below_0() {
     let (mut at_the_top, mut above, mut below) = (0, 0, 0);
     for bounds in [[1, 3], [2, 1], [0, 2], [2, 2]] {
         let free = one_edge(&bounds, &[constant(AtLeast, 0), Update::Keep]);
-        let least = i16::from(bounds[0]) - i16::from(bounds[1]);
+        let least = tables::least_offset(&bounds, 0, 1);
         for offset in least..=least + 2 {
             let automaton = one_edge(&bounds, &[clock(NotEqual, 1, offset), Update::Keep]);
             for row in all_rows(&automaton, 4_096).unwrap() {

@@ -84,8 +84,8 @@ pub fn all_updates(bounds: &[u8], own: usize) -> Vec<Update> {
             comparison,
             constant,
         }));
-        for (clock, bound) in bounds.iter().enumerate() {
-            let least = i16::from(bounds[own]) - i16::from(*bound);
+        for clock in 0..bounds.len() {
+            let least = tables::least_offset(bounds, own, clock);
             updates.extend((least..=least + 2).map(|offset| Update::Clock {
                 comparison,
                 clock: clock as u8,
