@@ -73,12 +73,11 @@ fn orders_no_more(clocks: Clocks, comparison: u8, y: usize, r: Region, s: Region
     requires { ⌜ y < clocks .count ⌝ }
     ensures { λ b. ⌜ b ≡ ordersb comparison (row-of (clocks .count) r) (row-of (clocks .count) s) y ⌝ }
 {
-    let above = comparison::allows_above(comparison);
-    let below = comparison::allows_below(comparison);
-    if above == below {
+    let answers = comparison::answers_of(comparison);
+    if answers.above == answers.below {
         return agree_in(clocks, r, s, y);
     }
-    if above {
+    if answers.above {
         return is_no_lower(clocks, r, s, y);
     }
     is_no_lower(clocks, s, r, y)

@@ -21,7 +21,7 @@ fn rises(u: Update) -> bool
     match a {
         Action::Keep => false,
         Action::Constant(_) => false,
-        Action::Clock(_, _, _) => comparison::allows_above(u.comparison),
+        Action::Clock(_, _, _) => comparison::answers_of(u.comparison).above,
     }
 }
 
@@ -64,12 +64,11 @@ fn term_key(
 ) -> usize
     ensures { λ r. ⌜ r ≤ 327930 ⌝ }
 {
-    let above = comparison::allows_above(comparison);
-    let below = comparison::allows_below(comparison);
-    if above && !below {
+    let answers = comparison::answers_of(comparison);
+    if answers.above && !answers.below {
         return 0;
     }
-    if falling && below {
+    if falling && answers.below {
         return 0;
     }
     if is_under(interval, up, down) {

@@ -98,12 +98,13 @@ impl Move {
         interval % 2 == 1
     }
 
-    // Whether the move allows the interval with the new part at the position: 2 q - 1 is at rank q's part, 2 q between that and the next.
+    // Whether the move allows the interval with the new part at the position: 2 q - 1 is at rank q's part, 2 q between that and the next. Where any
+    // order can be had, every comparison does, since each allows some order.
     pub fn fits_at(self, interval: u16, position: u8) -> bool
         ensures { λ r. ⌜ r ≡ fits-at self interval position ⌝ }
     {
         if self.is_free(interval) {
-            return comparison::allows_some(self.comparison);
+            return comparison::is_comparison(self.comparison);
         }
         if self.is_by_parts(interval) {
             return comparison::holds(
@@ -124,10 +125,10 @@ impl Move {
         ensures { λ r. ⌜ r ≡ permitsb self interval ⌝ }
     {
         if self.is_free(interval) {
-            return comparison::allows_some(self.comparison);
+            return comparison::is_comparison(self.comparison);
         }
         if self.is_by_parts(interval) {
-            return comparison::allows_some(self.comparison);
+            return comparison::is_comparison(self.comparison);
         }
         comparison::holds(
             self.comparison,

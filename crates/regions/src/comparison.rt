@@ -1,7 +1,7 @@
 // The six comparisons: one table, which guards, run values, region moves and the order of rows all ask.
 ghost use mathlib.Core.Path.{_≡_};
 ghost use lib.Dec.{ltb};
-ghost use Rattle.automata.specs.Comparison.{comparisons, place, answer, holds, some-answer, at-alone};
+ghost use Rattle.automata.specs.Comparison.{comparisons, place, answer, holds, at-alone};
 ghost use Prim.Native.Nat.{compare, Ordering·lt, Ordering·eq, Ordering·gt};
 
 // Rows: 0 <, 1 ≤, 2 =, 3 ≥, 4 >, 5 ≠. Columns: the answer for below, at and above.
@@ -51,49 +51,45 @@ pub fn holds(comparison: u8, x: u64, y: u64) -> bool
     ANSWERS[row][column]
 }
 
-// Whether the comparison allows what is below.
-pub fn allows_below(comparison: u8) -> bool
-    ensures { λ r. ⌜ r ≡ answer comparison Ordering·lt ⌝ }
-{
-    holds(comparison, 0, 1)
+// What a comparison answers for below, at and above.
+pub struct Answers {
+    pub below: bool,
+    pub at: bool,
+    pub above: bool,
 }
 
-// Whether it allows what is equal.
-pub fn allows_at(comparison: u8) -> bool
-    ensures { λ r. ⌜ r ≡ answer comparison Ordering·eq ⌝ }
+// The row of a comparison: three answers by one look at the table. A number that names no comparison answers no.
+pub fn answers_of(comparison: u8) -> Answers
+    ensures below { λ r. ⌜ r .below ≡ answer comparison Ordering·lt ⌝ }
+    ensures at { λ r. ⌜ r .at ≡ answer comparison Ordering·eq ⌝ }
+    ensures above { λ r. ⌜ r .above ≡ answer comparison Ordering·gt ⌝ }
 {
-    holds(comparison, 0, 0)
-}
-
-// Whether it allows what is above.
-pub fn allows_above(comparison: u8) -> bool
-    ensures { λ r. ⌜ r ≡ answer comparison Ordering·gt ⌝ }
-{
-    holds(comparison, 1, 0)
-}
-
-// Whether it allows any order at all.
-pub fn allows_some(comparison: u8) -> bool
-    ensures { λ r. ⌜ r ≡ some-answer comparison ⌝ }
-{
-    if allows_below(comparison) {
-        return true;
+    let row = comparison as usize;
+    if COMPARISONS <= row {
+        return Answers {
+            below: false,
+            at: false,
+            above: false,
+        };
     }
-    if allows_at(comparison) {
-        return true;
+    let answers = ANSWERS[row];
+    Answers {
+        below: answers[0],
+        at: answers[1],
+        above: answers[2],
     }
-    allows_above(comparison)
 }
 
-// Whether it allows what is equal and nothing else, and so asks for one value.
+// Whether the comparison allows what is at and nothing else, and so asks for one value.
 pub fn is_at_alone(comparison: u8) -> bool
     ensures { λ r. ⌜ r ≡ at-alone comparison ⌝ }
 {
-    if allows_below(comparison) {
+    let answers = answers_of(comparison);
+    if answers.below {
         return false;
     }
-    if allows_above(comparison) {
+    if answers.above {
         return false;
     }
-    allows_at(comparison)
+    answers.at
 }

@@ -31,6 +31,7 @@ impl Region {
         ensures { λ r. ⌜ MovesOf (bounds-of clocks) (edge-of (clocks .count) e) (row-of (clocks .count) self) r ⌝ }
     {
         let n = clocks.count as usize;
+        // what stands where there is no clock; nothing reads it
         let still = Move {
             comparison: comparison::EQUAL,
             shift: 0,

@@ -68,10 +68,6 @@ edge-keeps T admitted r r′ i h d = record { location-in = rw (d .leads .enters
 
 -- by either -----------------------------------------------------------------------------------------------------------------------------
 
-pub next-keeps : (T : Table) → Admitted T → (r r′ : Row) → RowOf T r → Next T r r′ → RowOf T r′
-next-keeps T admitted r r′ o (inl e) = wait-keeps T r r′ o e
-next-keeps T admitted r r′ o (inr (i, h, l)) = edge-keeps T admitted r r′ i h l
-
 pub by-edges-law : (T : Table) (r r′ : Row) → Mem r′ (by-edges T r) ↔ ((i : ℕ) × (i < length (T .edges)) × Mem r′ (edge-successors T i r))
 by-edges-law T r r′ = (out, into)
   where

@@ -2,14 +2,18 @@
 use Prim.Native.Nat.{ℕ, zero, suc, _*_, _≤_, _<_, compare, Ordering, Ordering·lt, Ordering·eq, Ordering·gt}
 use Prim.Native.Nat.{compare·zero-zero, compare·zero-suc, compare·suc-zero, compare·suc-suc}
 use native.Mathlib.Nat.{mul-lt-mul-of-pos-left}
+use native.Mathlib.Decide.{decLt}
 use native.Mathlib.Omega.{arith}
 use mathlib.Core.Path.{_≡_, refl, sym, ap, _∙_}
 use mathlib.Core.Bool.{Bool, true, false, not, _&&_, _||_, and-true, and-false, or-true}
 use mathlib.Core.Logic.{_↔_}
 use mathlib.Core.List.{List, [], _∷_}
 use lib.ListN.{length, getD}
-use Rattle.automata.specs.Comparison.{answers, equal, place, answer, holds, at-alone}
-use Rattle.automata.proofs.Laws.Tests.{never}
+use lib.Dec.{ltb}
+use borrow.Author.Tests.{lt-ltb, le-ltb}
+use Rattle.automata.specs.Comparison.{answers, comparisons, equal, place, answer, holds, some-answer, at-alone}
+use Rattle.automata.specs.Checks.{every}
+use Rattle.automata.proofs.Laws.Tests.{never, and-law}
 
 -- the three cases of two numbers, each with what `compare` says
 pub data Tri (a b : ℕ) : Type 0 where
@@ -138,11 +142,37 @@ not-equal-law x y = go (tri x y)
     go (is-gt h e) = (λ q n. omega arith, λ n. rw e)
 
 -- a number past the table's last row names no comparison, and allows nothing
-pub no-comparison : (cmp x y : ℕ) → length answers ≤ cmp → holds cmp x y ≡ false
-unfolding holds answer
-no-comparison cmp x y h = ap (λ (row : List Bool). getD row (place (compare x y)) false) (past answers cmp h)
+pub no-answer : (cmp : ℕ) (o : Ordering) → comparisons ≤ cmp → answer cmp o ≡ false
+unfolding answer
+no-answer cmp o h = ap (λ (row : List Bool). getD row (place o) false) (past answers cmp h)
   where
     past : (rows : List (List Bool)) (i : ℕ) → length rows ≤ i → getD rows i [] ≡ []
     past [] i h = refl
     past (r ∷ rows) zero h = absurd (omega arith)
     past (r ∷ rows) (suc i) h = past rows i (omega arith)
+
+pub no-comparison : (cmp x y : ℕ) → comparisons ≤ cmp → holds cmp x y ≡ false
+unfolding holds
+no-comparison cmp x y h = no-answer cmp (compare x y) h
+
+-- each row of the table has a yes: just the numbers of comparisons allow some order
+pub some-answer-law : (cmp : ℕ) → ltb cmp comparisons ≡ some-answer cmp
+unfolding some-answer answer
+some-answer-law cmp = go (decLt cmp comparisons)
+  where
+    some-yes : List Bool → Bool
+    some-yes row = getD row 0 false || getD row 1 false || getD row 2 false
+
+    both : (r : List Bool) (rows : List (List Bool)) → every some-yes (r ∷ rows) ≡ true → (some-yes r ≡ true) × (every some-yes rows ≡ true)
+    both r rows h = and-law (some-yes r) (every some-yes rows) (λ h. h, λ h. h) (λ h. h, λ h. h) .0 h
+
+    yes-at : (rows : List (List Bool)) → every some-yes rows ≡ true → (i : ℕ) → i < length rows → some-yes (getD rows i []) ≡ true
+    yes-at [] h i l = absurd (omega arith)
+    yes-at (r ∷ rows) h zero l = both r rows h .0
+    yes-at (r ∷ rows) h (suc i) l = yes-at rows (both r rows h .1) i (omega arith)
+
+    go : Dec (cmp < comparisons) → ltb cmp comparisons ≡ some-answer cmp
+    go (yes l) = lt-ltb cmp comparisons l ∙ sym (yes-at answers refl cmp l)
+    go (no n) =
+        let h : comparisons ≤ cmp = omega arith in
+        le-ltb cmp comparisons h ∙ sym (rw (no-answer cmp Ordering·lt h, no-answer cmp Ordering·eq h, no-answer cmp Ordering·gt h) refl)

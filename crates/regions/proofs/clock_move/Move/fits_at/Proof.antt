@@ -1,17 +1,18 @@
 use mathlib.Core.Path.{sym, _∙_}
 use Rattle.regions.proofs.Laws.Move.{fits-free, fits-parts, fits-fixed}
 use borrow.Author.Needs.{needs}
+use Rattle.automata.proofs.Laws.Order.{some-answer-law}
 use Rattle.regions.proofs.clock_move.Move.fits_at.Statement.{statement}
 use Rattle.regions.proofs.clock_move.Move.fits_at.Tie as tie
 
 is-free-requires : tie.Need-is-free-requires
 is-free-requires c κs = search needs
 
-allows-some-requires : tie.Need-allows-some-requires
-allows-some-requires c κs = search needs
+is-comparison-requires : tie.Need-is-comparison-requires
+is-comparison-requires c κs = search needs
 
 returns : tie.Need-returns
-returns c = c .allows-some .ensures ∙ fits-free _ _ _ (sym (c .before .before .is-free .ensures) ∙ c .before .if1 .taken)
+returns c = c .is-comparison .ensures ∙ some-answer-law _ ∙ fits-free _ _ _ (sym (c .before .before .is-free .ensures) ∙ c .before .if1 .taken)
 
 is-by-parts-requires : tie.Need-is-by-parts-requires
 is-by-parts-requires c κs = search needs
@@ -51,7 +52,7 @@ fits-at-spec =
     tie.close
     (tie.spec
     is-free-requires
-    allows-some-requires
+    is-comparison-requires
     returns
     is-by-parts-requires
     add-holds

@@ -1,26 +1,27 @@
 use mathlib.Core.Path.{sym, _∙_}
 use Rattle.regions.proofs.Laws.Move.{permits-free, permits-parts, permits-fixed}
 use borrow.Author.Needs.{needs}
+use Rattle.automata.proofs.Laws.Order.{some-answer-law}
 use Rattle.regions.proofs.clock_move.Move.permits.Statement.{statement}
 use Rattle.regions.proofs.clock_move.Move.permits.Tie as tie
 
 is-free-requires : tie.Need-is-free-requires
 is-free-requires c κs = search needs
 
-allows-some-requires : tie.Need-allows-some-requires
-allows-some-requires c κs = search needs
+is-comparison-requires : tie.Need-is-comparison-requires
+is-comparison-requires c κs = search needs
 
 returns : tie.Need-returns
-returns c = c .allows-some .ensures ∙ permits-free _ _ (sym (c .before .before .is-free .ensures) ∙ c .before .if1 .taken)
+returns c = c .is-comparison .ensures ∙ some-answer-law _ ∙ permits-free _ _ (sym (c .before .before .is-free .ensures) ∙ c .before .if1 .taken)
 
 is-by-parts-requires : tie.Need-is-by-parts-requires
 is-by-parts-requires c κs = search needs
 
-allows-some-requires-2 : tie.Need-allows-some-requires-2
-allows-some-requires-2 c κs = search needs
+is-comparison-requires-2 : tie.Need-is-comparison-requires-2
+is-comparison-requires-2 c κs = search needs
 
 returns-2 : tie.Need-returns-2
-returns-2 c = c .allows-some2 .ensures ∙ permits-parts _ _ (sym (c .before .before .before .before .is-free .ensures) ∙ c .before .before .before .if1 .left) (sym (c .before .before .is-by-parts .ensures) ∙ c .before .if2 .taken)
+returns-2 c = c .is-comparison2 .ensures ∙ some-answer-law _ ∙ permits-parts _ _ (sym (c .before .before .before .before .is-free .ensures) ∙ c .before .before .before .if1 .left) (sym (c .before .before .is-by-parts .ensures) ∙ c .before .if2 .taken)
 
 cast-holds : tie.Need-cast-holds
 cast-holds c = search needs
@@ -42,10 +43,10 @@ permits-spec =
     tie.close
     (tie.spec
     is-free-requires
-    allows-some-requires
+    is-comparison-requires
     returns
     is-by-parts-requires
-    allows-some-requires-2
+    is-comparison-requires-2
     returns-2
     cast-holds
     add-holds
