@@ -173,35 +173,47 @@ done
 
 # ---- no place goes by a comparison's number
 # What a comparison means stands in one table (`answers` in definitions, `ANSWERS` in code), and all else asks that table: a place that went by a number
-# would be passed over when a further comparison comes, and take it for another. So neither a number nor a constant's name may be held against a
-# comparison, be given to one, or stand for one where a function or a definition takes one. The search goes by the names `comparison` and `cmp`. In
+# would be passed over when a further comparison comes, and take it for another. So no number, and no constant's name, may be held against a comparison,
+# be given to one, or stand for one where a function or a definition takes one. Only the name of = (`equal`, `EQUAL`) may be given to one, as a kept
+# clock moves by it; but it may not be held against one, nor may code ask the table about it. The search goes by the names `comparison` and `cmp`. In
 # definitions 0 may stand where a list has ended, as in `idle`.
-number='([0-9]|[A-Z][A-Z0-9_]+)' it='\b(comparison|cmp)\b'
+number='([0-9]\w*|(\w+::)*[A-Z][A-Z0-9_]+)' it='\b(comparison|cmp)\b'
+held="($number|equal\b)"
 {
   # code: u.comparison == 2 (also as usize), 2 <= comparison, comparison: 2, match u.comparison, holds(2, x, y)
-  printf '%s\n' "$it( as [a-z0-9]+)?\)* (==|!=|<=?|>=?) \(*$number" "\b$number (==|!=|<=?|>=?) \(*([a-z_]+\.)*$it" \
-    "$it: $number" "\bmatch \(*([a-z_]+\.)*$it" "\bholds\( ?$number"
+  printf '%s\n' "$it( as \w+)?\)* (==|!=|<=?|>=?) \(*$held" "\b$held( as \w+)?\)* (==|!=|<=?|>=?) \(*(\w+\.)*$it" \
+    "$it: $number" "\bmatch \(*(\w+\.)*$it" "\b(holds|answers_of|is_at_alone)\( ?$held"
+  # and a number where a function has `comparison` among its arguments: key(clocks, falling, a, 2, z, from)
+  sed 's,//.*,,' crates/*/src/*.rt | tr -s ' \n' '  ' | grep -oE '\bfn \w+\([^()]*\b(comparison|cmp): ' | sed -E 's/^fn //; s/\( ?&?self, /(/' |
+    while IFS='(' read -r name before; do
+      before=${before//[!,]/}
+      printf '%s\n' "\b$name\((([^,()]|\([^()]*\))+,){${#before}} ?$number"
+    done
   # definitions: eqb cmp 2, ltb 2 cmp, cmp ≡ 2, 2 ≤ cmp, comparison = 2, comparison-of cmp keep = 2
-  printf '%s\n' "\b(eqb|leb|ltb|compare) $it [0-9]" "\b(eqb|leb|ltb|compare) [0-9]+ $it" "$it (≡|≢|<|≤|>|≥) [0-9]" "\b[0-9]+ (≡|≢|<|≤|>|≥) $it" \
+  printf '%s\n' "\b(eqb|leb|ltb|compare) $it $held" "\b(eqb|leb|ltb|compare) $held $it" "$it (≡|≢|<|≤|>|≥) $held" "\b$held (≡|≢|<|≤|>|≥) $it" \
     "$it = [1-9]" "\bcomparison-of [^:=]*= [0-9]"
   # and a number where a definition has `cmp` among its arguments: holds 2 x y
   sed 's/--.*//' crates/*/specs/*.antt | awk '/=/ {
     for (i = 2; i < NF && $i != "="; i++) if ($i ~ /^(cmp|comparison)$/) printf "\\b%s( [^ ()]+| [(][^()]*[)]){%d} [0-9]\n", $1, i - 2
   }' | sort -u
 } > "$room/by-number"
-# by_number FILE: what it finds, in the text without comments, as one line, with `cmp` for (u .comparison) and (comparison-of ..)
+# by_number FILE: what it finds, in the text without comments, as one line, with `cmp` for (u .comparison) and (comparison-of ..), and `equal` for EQUAL
 by_number() {
   sed -E 's,(//|--).*,,' "$1" | tr -s ' \n' '  ' | sed -E 's/\([^()]* \.comparison\)/cmp/g; s/\(comparison-of ([^()]|\([^()]*\))*\)/cmp/g' |
-    grep -oE -f "$room/by-number"
+    sed -E 's/\b(\w+::)*EQUAL\b/equal/g' | grep -oE -f "$room/by-number"
 }
 # it is awake: it finds these, and not those
 for text in 'if update.comparison == 2 {' 'if (u.comparison as usize) != EQUAL {' 'if 3 <= comparison {' 'falling && comparison <= 1' 'comparison: 2,' \
-  'match u.comparison {' 'comparison::holds(2, x, y)' 'settledb u = eqb (comparison-of (u .comparison) (u .action)) 2' 'ltb 2 (u .comparison)' \
+  'if update.comparison == comparison::EQUAL {' 'if comparison::EQUAL as usize == (u.comparison as usize) {' 'comparison: comparison::AT_MOST,' \
+  'match u.comparison {' 'comparison::holds(2, x, y)' 'comparison::holds(comparison::EQUAL, x, y)' 'comparison::answers_of(4)' 'is_at_alone(2)' \
+  'key(clocks, is_falling(e), a, 2, z, from)' 'settledb u = eqb (comparison-of (u .comparison) (u .action)) 2' 'ltb 2 (u .comparison)' \
+  'eqb (comparison-of (u .comparison) (u .action)) equal' 'eqb equal (u .comparison)' 'u .comparison ≡ equal' 'equal ≡ cmp' \
   'comparison-of cmp keep = 2' 'record { action = keep; comparison = 2 }' 'holds 2 x y' 'AllowedBy D (later d v) z x 2 keep' 'u .comparison ≡ 2'; do
   echo "$text" > "$room/text"
   if by_number "$room/text" > /dev/null; then ok; else bad "the search for a comparison's number passes over '$text'"; fi
 done
 for text in 'comparison: u8,' 'comparison: u.comparison,' 'comparison::holds(u.comparison, 1, 0)' 'holds (u .comparison) x (2 * k)' 'comparison = cmp;' \
+  'comparison: comparison::EQUAL,' 'comparison-of cmp keep = equal' 'key(clocks, false, a, u.comparison, 0, from)' \
   '// comparison == 2' 'AllowedBy D v z x cmp (constant 2)'; do
   echo "$text" > "$room/text"
   if found=$(by_number "$room/text"); then bad "the search for a comparison's number finds '$found'"; else ok; fi
