@@ -2,6 +2,7 @@
 -- numbers, tests, lists
 pub mod Tests
 pub mod Order
+pub mod Comparison
 pub mod Lists
 pub mod Members
 pub mod Ordered

@@ -1,11 +1,11 @@
 -- The next rows of a row, as lists that compute: by waiting, and by an edge. Assumes nothing.
-use Prim.Native.Nat.{ℕ, zero, suc, _+_, _*_, _-_, _%_, compare, Ordering, Ordering·lt, Ordering·eq, Ordering·gt}
+use Prim.Native.Nat.{ℕ, zero, suc, _+_, _*_, _-_, _%_, compare, Ordering}
 use mathlib.Core.Bool.{Bool, true, cond, not, _&&_, _||_}
 use mathlib.Core.Option.{Option, none, some}
 use mathlib.Core.List.{List, [], _∷_}
 use lib.ListN.{length, getD}
 use lib.Dec.{eqb, leb}
-use Rattle.automata.specs.Comparison.{equal, answer, holds}
+use Rattle.automata.specs.Comparison.{equal, answer, holds, some-answer}
 use Rattle.automata.specs.Clocks.{at, allb, greatest}
 use Rattle.automata.specs.Row.{Row}
 use Rattle.automata.specs.Wait.{wait}
@@ -49,7 +49,7 @@ comparison-of cmp (clock y up down) = cmp
 -- the comparison allows what is known, for a new part at position p: 2 q - 1 is at rank q's part, 2 q between that and the next
 unfoldable pub fits : ℕ → Rel → ℕ → Bool
 fits cmp (fixed o) p = answer cmp o
-fits cmp free p = answer cmp Ordering·lt || answer cmp Ordering·eq || answer cmp Ordering·gt
+fits cmp free p = some-answer cmp
 fits cmp (parts q) p = answer cmp (compare (p + 1) (2 * q))
 
 -- the update of clock z allows its new interval, and its new part at position p

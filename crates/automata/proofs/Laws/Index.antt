@@ -19,7 +19,7 @@ use Rattle.automata.specs.Successors.{guardsb, leadsb, wait-rows, edge-r
 use Rattle.automata.specs.Next.{TimeSuccessor, EdgeSuccessor, Next, time-successors, edge-successors, next-rows}
 use Rattle.automata.specs.Checks.{closedb}
 use Rattle.automata.specs.Meeting.{Met, Successive}
-use Rattle.automata.proofs.Laws.Order
+use Rattle.automata.proofs.Laws.Comparison
 use Rattle.automata.proofs.Laws.Scale
 use Rattle.automata.proofs.Laws.Waiting
 use Rattle.automata.proofs.Laws.Finer
@@ -107,10 +107,10 @@ wait-is-row = Waiting.wait-row
 
 -- = holds just where the numbers are equal, and comparison 5 just where they differ
 pub equal-law : (x y : ℕ) → (holds equal x y ≡ true) ↔ (x ≡ y)
-equal-law = Order.equal-law
+equal-law = Comparison.equal-law
 
 pub not-equal-law : (x y : ℕ) → (holds 5 x y ≡ true) ↔ (x ≡ y → ⊥)
-not-equal-law = Order.not-equal-law
+not-equal-law = Comparison.not-equal-law
 
 -- edges -------------------------------------------------------------------------------------------------------------------------
 

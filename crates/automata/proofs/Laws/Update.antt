@@ -2,18 +2,19 @@
 use Prim.Native.Nat.{ℕ, _+_, _*_, _-_, _≤_, _<_, _%_, compare, Ordering, Ordering·lt, Ordering·eq, Ordering·gt}
 use native.Mathlib.Omega.{arith}
 use mathlib.Core.Path.{_≡_, refl, sym, ap, _∙_}
-use mathlib.Core.Bool.{Bool, true, false, _&&_, _||_, or-true}
+use mathlib.Core.Bool.{Bool, true, false, _&&_, _||_}
 use mathlib.Core.Logic.{_⊎_, inl, inr}
 use mathlib.Core.List.{List}
 use lib.ListN.{length}
 use lib.Dec.{eqb, leb}
-use Rattle.automata.specs.Comparison.{equal, answer, holds}
+use Rattle.automata.specs.Comparison.{equal, answer, holds, some-answer}
 use Rattle.automata.specs.Clocks.{at, greatest}
 use Rattle.automata.specs.Row.{Row, Open, IsRow}
 use Rattle.automata.specs.Point.{Within, part, Contains, scaled}
 use Rattle.automata.specs.Edge.{Action, keep, constant, clock, AllowedBy, BoundedBy}
 use Rattle.automata.specs.Successors.{Rel, fixed, free, parts, relation, rel-clock, rel, comparison-of, fits}
-use Rattle.automata.proofs.Laws.Order.{compare-lt, compare-eq, compare-gt, equal-law}
+use Rattle.automata.proofs.Laws.Order.{compare-lt, compare-eq, compare-gt}
+use Rattle.automata.proofs.Laws.Comparison.{equal-law, some-order}
 use Rattle.automata.proofs.Laws.Tests.{Says, refutes, and-law, eqb-law, leb-law}
 use Rattle.automata.proofs.Laws.Lists.{at-scaled, at-greatest}
 use Rattle.automata.proofs.Laws.Clocks.{within-range}
@@ -60,19 +61,14 @@ case t j J I q = go chosen refl shared refl
 
 -- a comparison fits where any order can be had just if it allows some order
 free-law : (cmp p : ℕ) → Says (fits cmp free p) ((o : Ordering) × (answer cmp o ≡ true))
-unfolding fits
-free-law cmp p = (found (answer cmp Ordering·lt) refl (answer cmp Ordering·eq) refl, λ t. some-order (t .0) (t .1))
+unfolding fits some-answer
+free-law cmp p = (found (answer cmp Ordering·lt) refl (answer cmp Ordering·eq) refl, λ t. some-order cmp (t .0) (t .1))
   where
     found : (a : Bool) → answer cmp Ordering·lt ≡ a → (b : Bool) → answer cmp Ordering·eq ≡ b
         → (a || b || answer cmp Ordering·gt) ≡ true → (o : Ordering) × (answer cmp o ≡ true)
     found true e b f h = (Ordering·lt, e)
     found false e true f h = (Ordering·eq, f)
     found false e false f h = (Ordering·gt, h)
-
-    some-order : (o : Ordering) → answer cmp o ≡ true → (answer cmp Ordering·lt || answer cmp Ordering·eq || answer cmp Ordering·gt) ≡ true
-    some-order Ordering·lt h = rw h
-    some-order Ordering·eq h = rw (h, or-true (answer cmp Ordering·lt))
-    some-order Ordering·gt h = rw h (or-true (answer cmp Ordering·lt || answer cmp Ordering·eq))
 
 -- the law of one clock ---------------------------------------------------------------------------------------------------------
 

@@ -3,7 +3,7 @@ use Prim.Native.Nat.{ℕ}
 use mathlib.Core.Path.{_≡_, refl}
 use mathlib.Core.List.{List, [], _∷_, _++_}
 use lib.ListN.{length, replicate}
-use Rattle.automata.specs.Comparison.{answer, holds}
+use Rattle.automata.specs.Comparison.{answer, holds, some-answer}
 use Rattle.automata.specs.Clocks.{allb, someb}
 use Rattle.automata.specs.Wait.{evenb, entersb, some-evenb, growsb, leave-interval, leave-rank, left, arrive-interval, arrive-rank, arrived, wait}
 use Rattle.automata.specs.Rows.{openb, heldb, clockb, isrowb, gather, rows-at}
@@ -106,7 +106,7 @@ pub examples :
     × Gives (loop (1 ∷ []) (upd 2 2 0 0 1 ∷ [])) (row (1 ∷ []) (1 ∷ [])) 0 (row (3 ∷ []) (0 ∷ []) ∷ []) 55
 unfolding
     carry next-bytes next-record require end records holds answer wait left arrived leave-interval leave-rank arrive-interval arrive-rank evenb entersb
-    relation fits clock-fits allb someb openb heldb clockb isrowb rows-at guardsb some-evenb growsb least rank-fits greedy placedb leadsb edge-rows wait-rows time-successors edge-successors
+    some-answer relation fits clock-fits allb someb openb heldb clockb isrowb rows-at guardsb some-evenb growsb least rank-fits greedy placedb leadsb edge-rows wait-rows time-successors edge-successors
     header location edge-record table-file edges-bounded admitted admission
     step-record run-file steps-taken run-checked run-answer
     row-width row-record region-file ascending none-final rows-checked next-rows lacking list-outcome

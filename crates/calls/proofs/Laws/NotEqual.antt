@@ -2,7 +2,7 @@
 use Prim.Native.Nat.{ℕ}
 use mathlib.Core.Path.{_≡_, refl}
 use mathlib.Core.List.{List, [], _∷_}
-use Rattle.automata.specs.Comparison.{answer, holds}
+use Rattle.automata.specs.Comparison.{answer, holds, some-answer}
 use Rattle.automata.specs.Clocks.{allb, someb}
 use Rattle.automata.specs.Wait.{evenb, entersb, some-evenb, growsb, leave-interval, leave-rank, left, arrive-interval, arrive-rank, arrived, wait}
 use Rattle.automata.specs.Rows.{openb, heldb, clockb, isrowb, rows-at}
@@ -17,14 +17,11 @@ use Rattle.calls.specs.RegionFile.{row-width, row-record, region-file, a
 use Rattle.calls.specs.Follow.{followed, rows-followed, following, follow-answer, follow-buffer}
 use Rattle.calls.specs.Program.{decimal, Printed}
 use Rattle.calls.proofs.Laws.Examples.{table, region-list, run-list, loop, upd, row, Gives}
+use Rattle.calls.proofs.Laws.Samples.{step, run}
 
 -- P4's run, but that edge 1 is taken after 1, at 3
 abbrev later-run : List ℕ
-later-run =
-    0x52 ∷ 0x4E ∷ 0x00 ∷ 0x01 ∷ 0x00 ∷ 0x02
-    ∷ 0x53 ∷ 0x54 ∷ 0x00 ∷ 0x00 ∷ 0x00 ∷ 0x00 ∷ 0x00 ∷ 0x02 ∷ 0x00 ∷ 0x00 ∷ 0x00 ∷ 0x02
-    ∷ 0x53 ∷ 0x54 ∷ 0x00 ∷ 0x01 ∷ 0x00 ∷ 0x00 ∷ 0x00 ∷ 0x01 ∷ 0x00 ∷ 0x00 ∷ 0x00 ∷ 0x03
-    ∷ []
+later-run = run 2 (step 0 2 2 ∷ step 1 1 3 ∷ [])
 
 -- one clock of bound 2, and an edge into a final location that asks for the clock to be at least 2, at most 2, and in this comparison to 2
 abbrev pinned : ℕ → List ℕ
@@ -48,7 +45,7 @@ six-rows =
 
 -- its edge after 2
 abbrev one-step : List ℕ
-one-step = 0x52 ∷ 0x4E ∷ 0x00 ∷ 0x01 ∷ 0x00 ∷ 0x01 ∷ 0x53 ∷ 0x54 ∷ 0x00 ∷ 0x00 ∷ 0x00 ∷ 0x00 ∷ 0x00 ∷ 0x02 ∷ 0x00 ∷ 0x00 ∷ 0x00 ∷ 0x02 ∷ []
+one-step = run 1 (step 0 2 2 ∷ [])
 
 pub not-equal :
     -- 5 is a comparison, and the last; a keep has none
@@ -74,7 +71,7 @@ pub not-equal :
     (row (0 ∷ 0 ∷ []) (0 ∷ 0 ∷ []) ∷ row (1 ∷ 0 ∷ []) (0 ∷ 0 ∷ []) ∷ []) 46
 unfolding
     carry next-bytes next-record require end records holds answer wait left arrived leave-interval leave-rank arrive-interval arrive-rank evenb entersb
-    relation fits clock-fits allb someb openb heldb clockb isrowb rows-at guardsb some-evenb growsb least rank-fits greedy placedb leadsb edge-rows wait-rows time-successors edge-successors
+    some-answer relation fits clock-fits allb someb openb heldb clockb isrowb rows-at guardsb some-evenb growsb least rank-fits greedy placedb leadsb edge-rows wait-rows time-successors edge-successors
     header location edge-record table-file edges-bounded admitted admission
     step-record run-file steps-taken run-checked run-answer
     row-width row-record region-file ascending none-final rows-checked next-rows lacking list-outcome

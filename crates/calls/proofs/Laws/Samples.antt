@@ -34,10 +34,10 @@ abbrev kept : List ℕ
 kept = upd 0 0 0 0 0
 
 -- one step: edge, delay, value
-abbrev step : ℕ → ℕ → ℕ → List ℕ
+abbrev pub step : ℕ → ℕ → ℕ → List ℕ
 step edge delay value = 0x53 ∷ 0x54 ∷ 0 ∷ edge ∷ 0 ∷ 0 ∷ 0 ∷ delay ∷ 0 ∷ 0 ∷ 0 ∷ value ∷ []
 
-abbrev run : ℕ → List (List ℕ) → List ℕ
+abbrev pub run : ℕ → List (List ℕ) → List ℕ
 run steps records = 0x52 ∷ 0x4E ∷ 0 ∷ 1 ∷ 0 ∷ steps ∷ gather (λ (b : List ℕ). b) records
 
 abbrev at-location : ℕ → ℕ → ℕ → List ℕ

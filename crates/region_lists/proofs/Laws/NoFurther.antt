@@ -17,6 +17,7 @@ use Rattle.automata.specs.Rows.{select, rows-at, isrowb}
 use Rattle.automata.specs.Successors.{guardsb, Rel, fixed, free, parts, relation, rel, comparison-of, fits, clock-fits, rank-fits, least, greedy, placedb, leadsb, edge-rows}
 use Rattle.automata.specs.Checks.{every}
 use Rattle.automata.proofs.Laws.Order.{compare-lt, compare-gt}
+use Rattle.automata.proofs.Laws.Comparison.{some-order}
 use Rattle.automata.proofs.Laws.Tests.{Says, never, and-law, or-law, eqb-law, leb-law, ltb-law, allb-law}
 use Rattle.automata.proofs.Laws.Lists.{at-greatest}
 use Rattle.automata.proofs.Laws.Rows.{isrowb-law}
@@ -218,7 +219,7 @@ module _ (cmp t j J I K q q′ p : ℕ) where
     where
       go : Dec (K ≤ J) → Dec (j ≡ t) → fits cmp (relation t j J K q′) p ≡ true
       go (yes a) d = through (fixed Ordering·gt) (relation t j J K q′) (relation-above t j J I q (omega arith)) refl (λ f. never (sym (B .1) ∙ f)) h
-      go (no a) (yes d) = rw (relation-top t j J K q′ (omega arith) d, B .0) refl
+      go (no a) (yes d) = rw (relation-top t j J K q′ (omega arith) d) (some-order cmp Ordering·lt (B .0))
       go (no a) (no d) = rw (relation-below t j J K q′ (omega arith) d) (B .0)
 
 module _ (r s : Row) where

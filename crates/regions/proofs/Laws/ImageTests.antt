@@ -20,7 +20,7 @@ use Rattle.regions.specs.declared.edge.Action as action-code
 use Rattle.regions.specs.declared.edge.Update as update-code
 use Rattle.regions.specs.declared.edge.Edge as edge-code
 use Rattle.regions.specs.declared.clock_move.Move.{Move}
-use Rattle.automata.proofs.Laws.Order.{equal-alone}
+use Rattle.automata.proofs.Laws.Comparison.{equal-alone}
 use Rattle.automata.proofs.Laws.Count.{count-same}
 use Rattle.regions.proofs.Laws.Values.{getD-mapped, padded-next}
 use Rattle.regions.proofs.Laws.Moves.{no-update}

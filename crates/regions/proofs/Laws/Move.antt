@@ -1,10 +1,10 @@
 -- One clock's move: what it says of an update, the three cases of its test, and the stretches of intervals that it permits alike.
 -- Assumes nothing.
-use Prim.Native.Nat.{ℕ, _+_, _*_, _≤_, _<_, _%_, compare, Ordering, Ordering·lt, Ordering·eq, Ordering·gt}
+use Prim.Native.Nat.{ℕ, _+_, _*_, _≤_, _<_, _%_, compare, Ordering·lt, Ordering·gt}
 use native.Mathlib.Nat.{add-zero}
 use native.Mathlib.Omega.{arith}
 use mathlib.Core.Path.{_≡_, refl, sym, ap, _∙_}
-use mathlib.Core.Bool.{Bool, true, false, _&&_, _||_, or-true}
+use mathlib.Core.Bool.{Bool, true, false, _&&_}
 use mathlib.Core.List.{List}
 use lib.Dec.{eqb, leb}
 use lib.ListN.{length-take}
@@ -23,6 +23,7 @@ use Rattle.regions.specs.declared.region.Region.{Region}
 use Rattle.regions.specs.declared.edge.Action as action-code
 use Rattle.regions.specs.declared.edge.Update as update-code
 use Rattle.automata.proofs.Laws.Order.{compare-lt, compare-gt}
+use Rattle.automata.proofs.Laws.Comparison.{some-order}
 use Rattle.automata.proofs.Laws.Tests.{fails, and-law, eqb-law, leb-law}
 
 -- the cases of a move -----------------------------------------------------------------------------------------------------------------
@@ -79,12 +80,6 @@ module _ (m : Move) (j : ℕ) where
   permits-above n l = rw (ne-eqb j (m .top) n, ne-eqb (j + m .shift) (m .reference) (λ e. omega arith), compare-gt (j + m .shift) (m .reference) l)
 
 -- what fits at a position is permitted ------------------------------------------------------------------------------------------------
-
-some-order : (cmp : ℕ) (o : Ordering) → answer cmp o ≡ true → some-answer cmp ≡ true
-unfolding some-answer
-some-order cmp Ordering·lt h = rw h
-some-order cmp Ordering·eq h = rw (h, or-true (answer cmp Ordering·lt))
-some-order cmp Ordering·gt h = rw h (or-true (answer cmp Ordering·lt || answer cmp Ordering·eq))
 
 pub fits-permits : (m : Move) (j p : ℕ) → fits-at m j p ≡ true → permitsb m j ≡ true
 unfolding fits-at permitsb fits fits-somewhere some-answer

@@ -15,7 +15,7 @@ use Rattle.automata.specs.Successors.{comparison-of}
 use Rattle.regions.specs.Move.{move-of}
 use Rattle.regions.specs.Image.{settledb}
 use Rattle.regions.specs.declared.clock_move.Move.{Move}
-use Rattle.automata.proofs.Laws.Order.{alone-law}
+use Rattle.automata.proofs.Laws.Comparison.{alone-law}
 use Rattle.automata.proofs.Laws.Lists.{at-greatest}
 use Rattle.automata.proofs.Laws.Sides.{Sides, sides, whole}
 use Rattle.automata.proofs.Laws.Classes.{Classes}

@@ -1,7 +1,7 @@
 use mathlib.Core.Path.{refl, sym}
 use borrow.Author.Needs.{needs}
 use Rattle.automata.specs.Comparison.{answer}
-use Rattle.automata.proofs.Laws.Order.{no-answer}
+use Rattle.automata.proofs.Laws.Comparison.{no-answer}
 use Rattle.regions.proofs.comparison.answers_of.Statement.{statement}
 use Rattle.regions.proofs.comparison.answers_of.Tie as tie
 

@@ -3,7 +3,7 @@ use borrow.Author.Needs.{needs}
 use native.Mathlib.Omega.{arith}
 use Prim.Native.Nat.{compare}
 use Rattle.automata.specs.Comparison.{answer, holds}
-use Rattle.automata.proofs.Laws.Order.{place-small, no-comparison}
+use Rattle.automata.proofs.Laws.Comparison.{place-small, no-comparison}
 use Rattle.regions.proofs.comparison.holds.Statement.{statement}
 use Rattle.regions.proofs.comparison.holds.Tie as tie
 

@@ -1,6 +1,6 @@
 use mathlib.Core.Path.{sym, _∙_}
 use borrow.Author.Needs.{needs}
-use Rattle.automata.proofs.Laws.Order.{not-below-alone, not-above-alone, at-is-alone}
+use Rattle.automata.proofs.Laws.Comparison.{not-below-alone, not-above-alone, at-is-alone}
 use Rattle.regions.proofs.comparison.is_at_alone.Statement.{statement}
 use Rattle.regions.proofs.comparison.is_at_alone.Tie as tie
 

@@ -1,7 +1,7 @@
 use mathlib.Core.Path.{sym, _∙_}
 use Rattle.regions.proofs.Laws.Move.{fits-free, fits-parts, fits-fixed}
 use borrow.Author.Needs.{needs}
-use Rattle.automata.proofs.Laws.Order.{some-answer-law}
+use Rattle.automata.proofs.Laws.Comparison.{some-answer-law}
 use Rattle.regions.proofs.clock_move.Move.fits_at.Statement.{statement}
 use Rattle.regions.proofs.clock_move.Move.fits_at.Tie as tie
 

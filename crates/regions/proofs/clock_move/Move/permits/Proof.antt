@@ -1,7 +1,7 @@
 use mathlib.Core.Path.{sym, _∙_}
 use Rattle.regions.proofs.Laws.Move.{permits-free, permits-parts, permits-fixed}
 use borrow.Author.Needs.{needs}
-use Rattle.automata.proofs.Laws.Order.{some-answer-law}
+use Rattle.automata.proofs.Laws.Comparison.{some-answer-law}
 use Rattle.regions.proofs.clock_move.Move.permits.Statement.{statement}
 use Rattle.regions.proofs.clock_move.Move.permits.Tie as tie
 
