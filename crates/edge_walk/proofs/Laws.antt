@@ -1,9 +1,12 @@
 -- The laws of the walk.
--- the walk over an edge's next rows: one clock's move, positions of ranks, the choices, the first above a floor, all of them
+-- the numbers of a row, the choices for one of them, where a walk stands and its steps, the next region that it meets
 pub mod Numbers
 pub mod Choice
-pub mod Walk
-pub mod Search
+pub mod Stand
+pub mod Meet
+-- the first above a floor, the rows of an edge's way, the walk along it
 pub mod First
-pub mod Next
+pub mod Trim
+pub mod Way
+pub mod Along
 pub mod Visit

@@ -1,4 +1,4 @@
--- The walk over an edge's next rows, which chooses the numbers of a row one after the other: what it seeks, and how far it has come.
+-- The walk over an edge's next rows, which chooses the numbers of a row one after the other: what it seeks, and which choices it leaves out.
 -- Assumes nothing.
 use Prim.Native.Nat.{ℕ, _+_, _*_, _-_, _≤_, _<_}
 use mathlib.Core.Path.{_≡_}
@@ -9,10 +9,10 @@ use mathlib.Core.List.{List}
 use lib.ListN.{getD, set}
 use lib.Dec.{leb, ltb}
 use Rattle.automata.specs.Clocks.{at}
-use Rattle.automata.specs.Row.{Row, IsRow, Before, Below}
+use Rattle.automata.specs.Row.{Row, IsRow, Below}
 use Rattle.automata.specs.Rows.{openb}
 use Rattle.automata.specs.Rankings.{usedb, rank-room}
-use Rattle.regions.specs.Values.{Few, bounds-of, row-of, region-of, sought}
+use Rattle.regions.specs.Values.{Few, bounds-of, row-of, sought}
 use Rattle.regions.specs.Order.{numbers}
 use Rattle.regions.specs.Placing.{still, placed-at}
 use Rattle.regions.specs.declared.region.Clocks.{Clocks}
@@ -33,12 +33,6 @@ pub record Candidate (s : Search) (x : Row) : Type 0 where
   pub is-row : IsRow (bounds-of (s .clocks)) x
   pub placed : placed-at (s .moves .each) (s .moves .ranks) (s .clocks .count) (x .intervals) (x .ranks) ≡ true
 
--- a row that goes on from the first i of the numbers ps, and lies above those of the floor where it has to be looked at still
-pub record Wanted (C : Row → Type 0) (floor ps : List ℕ) (i : ℕ) (tight : Bool) (x : Row) : Type 0 where
-  pub held : C x
-  pub agrees : Agree i (numbers x) ps
-  pub above : tight ≡ true → Before floor (numbers x)
-
 -- the least of the rows, or none where there is none
 abbrev pub First : (Row → Type 0) → Option Row → Type 0
 First Q none = (x : Row) → Q x → ⊥
@@ -50,7 +44,7 @@ pub record Answers (Q : Row → Type 0) (r : Sought) : Type 0 where
   pub given : r ≡ sought row
   pub first : First Q row
 
--- the walk ----------------------------------------------------------------------------------------------------------------------
+-- the choices -------------------------------------------------------------------------------------------------------------------
 
 -- few clocks and ranks, and each clock's top
 pub record Ready (s : Search) : Type 0 where
@@ -61,17 +55,6 @@ pub record Ready (s : Search) : Type 0 where
 -- the numbers of a region, as the search has them
 abbrev pub numbers-of : Search → Region → List ℕ
 numbers-of s v = numbers (row-of (s .clocks .count) v)
-
--- the first i numbers of the part are chosen; where it is tight they are the floor's
-pub record Underway (s : Search) (part : Region) (i : ℕ) (tight : Bool) : Type 0 where
-  pub plain : region-of (row-of (s .clocks .count) part) ≡ part
-  pub begun : 0 < i
-  pub within : i ≤ 1 + 2 * s .clocks .count
-  pub along : tight ≡ true → Agree i (numbers-of s part) (numbers-of s (s .floor))
-
--- what a part can become
-abbrev pub Goal : Search → Region → ℕ → Bool → Row → Type 0
-Goal s part i tight = Wanted (Candidate s) (numbers-of s (s .floor)) (numbers-of s part) i tight
 
 -- how many ranks there can be with none missing, once all intervals and the ranks of the first z clocks are chosen
 abbrev pub room : Clocks → Region → ℕ → ℕ

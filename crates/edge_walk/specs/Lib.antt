@@ -1,4 +1,6 @@
--- What the walk over an edge's next rows seeks, and how far it has come.
+-- What the walk over an edge's next rows seeks, where it stands, and how far it has come.
 pub mod Walk
 pub mod Choice
+pub mod Stand
+pub mod Way
 pub mod Visit

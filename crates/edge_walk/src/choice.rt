@@ -11,11 +11,10 @@ ghost use Prim.Native.Nat.{_+_, _*_, _≤_, _<_, max};
 ghost use Rattle.regions.specs.Values.{Few};
 ghost use Rattle.edge_walk.specs.Choice.{rank-limit, stuckb, PassesOver, Ready, Skips, Ends};
 
-// What the walk goes by: the clocks, their moves, and the region above which it seeks.
+// What the walk goes by: the clocks, and their moves.
 pub struct Search {
     pub clocks: Clocks,
     pub moves: Moves,
-    pub floor: Region,
 }
 
 // The least rank from this one on in an open interval.

@@ -1,88 +1,91 @@
-// The walk over an edge's next regions: the least of them above a given one, found number by number.
+// The walk over an edge's next regions: the least of them above a given one.
 use crate::choice::Search;
+use crate::stand::Stand;
+use crate::stand::start_in;
+use crate::stand::step_back;
+use crate::way::Way;
+use crate::way::way_by;
 use regions::edge::Edge;
 use regions::region::Clocks;
 use regions::region::Region;
 use regions::region::Sought;
 use regions::region::missing;
 ghost use mathlib.Core.Path.{_≡_};
-ghost use mathlib.Core.Bool.{false, cond, _&&_};
+ghost use mathlib.Core.Bool.{_&&_};
 ghost use Prim.Native.Nat.{_+_, _*_, _≤_};
 ghost use lib.Dec.{eqb, ltb};
 ghost use Rattle.automata.specs.Row.{IsRow};
+ghost use Rattle.automata.specs.Rows.{isrowb};
 ghost use Rattle.automata.specs.Edge.{Bounded};
 ghost use Rattle.automata.specs.Successors.{edge-rows};
+ghost use Rattle.regions.specs.Values.{Few, bounds-of, row-of, region-of, sought, found-of, edge-of};
 ghost use Rattle.edge_walk.specs.Walk.{first-above};
-ghost use Rattle.regions.specs.Values.{Few, bounds-of, row-of, sought, found-of, edge-of};
-ghost use Rattle.edge_walk.specs.Choice.{stuckb, Ready, Underway, Goal, Answers};
+ghost use Rattle.edge_walk.specs.Choice.{Ready, Answers};
+ghost use Rattle.edge_walk.specs.Stand.{past, Ahead, Standing};
+ghost use Rattle.edge_walk.specs.Way.{way-rows};
 
-// The number to begin with: the floor's where the part has followed the floor so far, else the least.
-fn first_choice(tight: bool, floor: u16) -> u16
-    ensures { λ r. ⌜ r ≡ cond tight floor 0 ⌝ }
-{
-    if tight {
-        return floor;
+impl Search {
+    // The least region that is ahead of a walk which stands there.
+    fn meet(self, from: Stand) -> Sought
+        requires { ⌜ Ready self ⌝ }
+        requires { ⌜ Standing self from ⌝ }
+        ensures { λ r. ⌜ Answers (Ahead self from) r ⌝ }
+    {
+        let clocks = self.clocks;
+        let all = 1 + 2 * (clocks.count as usize);
+        let mut at = from;
+        while 0 < at.depth {
+            let part = at.part;
+            let done = at.depth == all;
+            if is_met(clocks, part, done) {
+                return Sought {
+                    found: true,
+                    region: part,
+                };
+            }
+            at = self.step(at, done);
+        }
+        missing()
     }
-    0
 }
 
-// Whether the part follows the floor after one choice more.
-fn stays_tight(tight: bool, choice: u16, floor: u16) -> bool
-    ensures { λ r. ⌜ r ≡ (tight && eqb choice floor) ⌝ }
+// Whether a part is a region, all of its numbers being chosen.
+fn is_met(clocks: Clocks, part: Region, chosen: bool) -> bool
+    requires { ⌜ Few clocks ⌝ }
+    ensures { λ r. ⌜ r ≡ (chosen && isrowb (bounds-of clocks) (row-of (clocks .count) part)) ⌝ }
 {
-    if !tight {
+    if !chosen {
         return false;
     }
-    choice == floor
+    part.is_region(clocks)
 }
 
-// The part whose numbers are all chosen, if it is a region and not the floor itself.
-fn arrive(s: Search, part: Region, tight: bool) -> Sought
-    requires { ⌜ Ready s ⌝ }
-    requires { ⌜ Underway s part (1 + 2 * s .clocks .count) tight ⌝ }
-    requires { ⌜ stuckb s part (1 + 2 * s .clocks .count) ≡ false ⌝ }
-    ensures { λ r. ⌜ Answers (Goal s part (1 + 2 * s .clocks .count) tight) r ⌝ }
+// The region with zeros from number n of its intervals and of its ranks on, so that it is one of n clocks.
+fn trimmed(n: usize, region: Region) -> Region
+    requires { ⌜ n ≤ 4 ⌝ }
+    ensures { λ r. ⌜ r ≡ region-of (row-of n region) ⌝ }
 {
-    if tight {
-        return missing();
+    let mut trimmed = region;
+    let mut z = n;
+    while z < 4 {
+        trimmed.intervals[z] = 0;
+        trimmed.ranks[z] = 0;
+        z += 1;
     }
-    let clocks = s.clocks;
-    if !part.is_region(clocks) {
-        return missing();
-    }
-    Sought {
-        found: true,
-        region: part,
-    }
+    trimmed
 }
 
-// The least region above the floor that the part, whose first i numbers are chosen, can become. Tight says that these are the floor's; where
-// they are not, they are above it.
-fn walk(s: Search, part: Region, i: usize, tight: bool) -> Sought
-    requires { ⌜ Ready s ⌝ }
-    requires { ⌜ Underway s part i tight ⌝ }
-    ensures { λ r. ⌜ Answers (Goal s part i tight) r ⌝ }
+// Where a walk stands that has just met a region.
+fn past(n: usize, region: Region) -> Stand
+    requires { ⌜ n ≤ 4 ⌝ }
+    ensures { λ r. ⌜ r ≡ past n region ⌝ }
 {
-    if s.is_stuck(part, i) {
-        return missing();
-    }
-    let n = s.clocks.count as usize;
-    if i == 1 + 2 * n {
-        return arrive(s, part, tight);
-    }
-    let base = s.floor;
-    let floor = base.number(n, i);
-    let last = s.last_choice(part, i);
-    let mut choice = s.next_choice(part, i, first_choice(tight, floor));
-    while choice <= last {
-        let further = part.with_number(n, i, choice);
-        let sought = walk(s, further, i + 1, stays_tight(tight, choice, floor));
-        if sought.found {
-            return sought;
-        }
-        choice = s.next_choice(part, i, choice + 1);
-    }
-    missing()
+    let met = Stand {
+        part: trimmed(n, region),
+        depth: 1 + 2 * n,
+        least: 0,
+    };
+    step_back(n, met)
 }
 
 // Whether every region of the location is below the floor.
@@ -107,6 +110,28 @@ fn is_at(floor: Sought, location: u8) -> bool
     region.location == location
 }
 
+impl Way {
+    // The least region on the way above the floor, or the first where there is no floor; or none. A floor that was met before is where the walk goes on.
+    pub fn next(self, floor: Sought) -> Sought
+        requires { ⌜ Ready (self .search) ⌝ }
+        ensures { λ r. ⌜ r ≡ sought (first-above (found-of (self .search .clocks .count) floor) (way-rows self)) ⌝ }
+    {
+        let location = self.target;
+        if !self.leads {
+            return missing();
+        }
+        if is_past(floor, location) {
+            return missing();
+        }
+        let search = self.search;
+        if is_at(floor, location) {
+            let n = search.clocks.count as usize;
+            return search.meet(past(n, floor.region));
+        }
+        search.meet(start_in(location))
+    }
+}
+
 // The least region above the floor, or the first where there is no floor, of those that the edge leads to; or none.
 pub fn next_region(clocks: Clocks, from: Region, e: Edge, floor: Sought) -> Sought
     requires { ⌜ Few clocks ⌝ }
@@ -115,29 +140,6 @@ pub fn next_region(clocks: Clocks, from: Region, e: Edge, floor: Sought) -> Soug
     requires { ⌜ Bounded (bounds-of clocks) (edge-of (clocks .count) e) ⌝ }
     ensures { λ r. ⌜ r ≡ sought (first-above (found-of (clocks .count) floor) (edge-rows (bounds-of clocks) (edge-of (clocks .count) e) (row-of (clocks .count) from))) ⌝ }
 {
-    if from.location != e.source {
-        return missing();
-    }
-    if !from.guards_hold(clocks, e) {
-        return missing();
-    }
-    let moves = from.moves(clocks, e);
-    if !moves.all_permit(clocks.count as usize) {
-        return missing();
-    }
-    if is_past(floor, e.target) {
-        return missing();
-    }
-    let base = floor.region;
-    let s = Search {
-        clocks: clocks,
-        moves: moves,
-        floor: base,
-    };
-    let part = Region {
-        location: e.target,
-        intervals: [0; 4],
-        ranks: [0; 4],
-    };
-    walk(s, part, 1, is_at(floor, e.target))
+    let way = way_by(clocks, from, e);
+    way.next(floor)
 }

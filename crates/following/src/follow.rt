@@ -9,7 +9,7 @@ ghost use Rattle.calls.specs.RegionFile.{row-width, rows-bytes};
 ghost use Rattle.calls.specs.Follow.{follow-answer, follow-buffer};
 ghost use Rattle.calls.specs.Meaning.{Written};
 ghost use Rattle.following.specs.Following.{answer-of, Stands, Leaves, rows-waited, rows-led, fits, told, put, FirstAfter, Stays};
-use edge_walk::walk::next_region;
+use edge_walk::way::way_by;
 use regions::edge::Edge;
 use regions::region::Clocks;
 use regions::region::Region;
@@ -41,13 +41,14 @@ fn all_fit(clocks: Clocks, from: Region, e: Edge, room: usize) -> bool
     ensures { λ r. ⌜ r ≡ fits (rows-led clocks e from) room ⌝ }
 {
     let width = width_of(clocks);
+    let way = way_by(clocks, from, e);
     let mut floor = Sought {
         found: false,
         region: from,
     };
     let mut left = room;
     loop {
-        let further = next_region(clocks, from, e, floor);
+        let further = way.next(floor);
         if !further.found {
             return true;
         }
@@ -69,6 +70,7 @@ fn write_all(buffer: &mut [u8], clocks: Clocks, from: Region, e: Edge) -> usize
 {
     let width = width_of(clocks);
     let n = clocks.count as usize;
+    let way = way_by(clocks, from, e);
     let mut floor = Sought {
         found: false,
         region: from,
@@ -76,7 +78,7 @@ fn write_all(buffer: &mut [u8], clocks: Clocks, from: Region, e: Edge) -> usize
     let mut at = 0;
     let mut count: usize = 0;
     loop {
-        let next = next_region(clocks, from, e, floor);
+        let next = way.next(floor);
         if !next.found {
             return count;
         }

@@ -1,35 +1,42 @@
-// Whether a region list has all regions that an edge leads to from one of its regions. Their numbers are chosen one after the other, as in the
-// walk over an edge's next regions, but each choice is gone into once, and each region is looked up where it is met.
+// Whether a region list has all regions that an edge leads to from one of its regions: a walk over them that stops at the first that is not listed. They
+// are met ascending, so each is looked up from where the one before it was.
 ghost use mathlib.Core.Path.{_≡_};
-ghost use mathlib.Core.Bool.{true, false};
-ghost use Prim.Native.Nat.{_+_, _*_};
+ghost use mathlib.Core.Bool.{true, not, _||_};
 ghost use Rattle.automata.specs.Row.{IsRow};
+ghost use Rattle.automata.specs.Rows.{isrowb};
 ghost use Rattle.automata.specs.Edge.{Bounded};
 ghost use Rattle.automata.specs.Closed.{Ascends};
 ghost use Rattle.automata.specs.Successors.{guardsb, edge-rows};
 ghost use Rattle.automata.specs.Checks.{every, has};
 ghost use Rattle.regions.specs.Values.{bounds-of, row-of, edge-of};
-ghost use Rattle.edge_walk.specs.Choice.{stuckb, Ready, Underway, Goal};
-ghost use Rattle.edge_walk.specs.Visit.{AllPass};
+ghost use Rattle.edge_walk.specs.Choice.{Ready};
+ghost use Rattle.edge_walk.specs.Stand.{Ahead, Standing};
+ghost use Rattle.edge_walk.specs.Visit.{AllPass, Seen};
 ghost use Rattle.region_lists.specs.Listed.{listed-rows, Listed};
 use crate::listed::Found;
 use crate::listed::find;
 use crate::ranked::has_all_ranked;
 use edge_walk::choice::Search;
+use edge_walk::stand::Stand;
+use edge_walk::stand::start_in;
+use edge_walk::way::open_way;
 use regions::edge::Edge;
 use regions::region::Clocks;
 use regions::region::Region;
 
-// Whether the part whose numbers are all chosen is in the list, if it is a region.
-fn arrives_inside(list: &[u8], count: usize, s: Search, part: Region, hint: usize) -> Found
-    requires { ⌜ Listed (s .clocks) (now list) count ⌝ }
-    requires { ⌜ Ascends (listed-rows (s .clocks .count) (now list) count) ⌝ }
-    requires { ⌜ Ready s ⌝ }
-    requires { ⌜ Underway s part (1 + 2 * s .clocks .count) false ⌝ }
-    requires { ⌜ stuckb s part (1 + 2 * s .clocks .count) ≡ false ⌝ }
-    ensures { λ r. ⌜ AllPass (Goal s part (1 + 2 * s .clocks .count) false) (has (listed-rows (s .clocks .count) (now (list .entry)) count)) (r .listed) ⌝ }
+// A look at where the walk stands: whether nothing is missing, whether all that begins with the numbers chosen has been looked up, and where.
+struct Sight {
+    listed: bool,
+    done: bool,
+    at: usize,
+}
+
+// Whether a part whose numbers are all chosen is in the list, if it is a region.
+fn arrives_inside(list: &[u8], clocks: Clocks, count: usize, part: Region, hint: usize) -> Found
+    requires { ⌜ Listed clocks (now list) count ⌝ }
+    requires { ⌜ Ascends (listed-rows (clocks .count) (now list) count) ⌝ }
+    ensures { λ r. ⌜ r .listed ≡ (not (isrowb (bounds-of clocks) (row-of (clocks .count) part)) || has (listed-rows (clocks .count) (now (list .entry)) count) (row-of (clocks .count) part)) ⌝ }
 {
-    let clocks = s.clocks;
     if !part.is_region(clocks) {
         return Found {
             listed: true,
@@ -39,44 +46,63 @@ fn arrives_inside(list: &[u8], count: usize, s: Search, part: Region, hint: usiz
     find(list, clocks, count, part, hint)
 }
 
-// Whether every region that the part, whose first i numbers are chosen, can become is in the list. They are met ascending, so each is looked up
-// from where the one before it was.
-fn all_inside(list: &[u8], count: usize, s: Search, part: Region, i: usize, hint: usize) -> Found
+// Looks up the part where all is chosen, and all that it can become by its ranks where its intervals have just been chosen.
+fn look(list: &[u8], count: usize, s: Search, at: Stand, hint: usize) -> Sight
     requires { ⌜ Listed (s .clocks) (now list) count ⌝ }
     requires { ⌜ Ascends (listed-rows (s .clocks .count) (now list) count) ⌝ }
     requires { ⌜ Ready s ⌝ }
-    requires { ⌜ Underway s part i false ⌝ }
-    ensures { λ r. ⌜ AllPass (Goal s part i false) (has (listed-rows (s .clocks .count) (now (list .entry)) count)) (r .listed) ⌝ }
+    requires { ⌜ Standing s at ⌝ }
+    ensures { λ r. ⌜ Seen s at (has (listed-rows (s .clocks .count) (now (list .entry)) count)) (r .listed) (r .done) ⌝ }
 {
-    if s.is_stuck(part, i) {
-        return Found {
+    let clocks = s.clocks;
+    let part = at.part;
+    if at.depth == 1 + 2 * (clocks.count as usize) {
+        let found = arrives_inside(list, clocks, count, part, hint);
+        return Sight {
+            listed: found.listed,
+            done: true,
+            at: found.at,
+        };
+    }
+    if at.least != 0 {
+        return Sight {
             listed: true,
+            done: false,
             at: hint,
         };
     }
-    let n = s.clocks.count as usize;
-    if i == 1 + 2 * n {
-        return arrives_inside(list, count, s, part, hint);
+    let ranked = has_all_ranked(list, clocks, count, part, at.depth, hint);
+    Sight {
+        listed: true,
+        done: ranked.listed,
+        at: ranked.at,
     }
-    let ranked = has_all_ranked(list, s.clocks, count, part, i, hint);
-    if ranked.listed {
-        return ranked;
-    }
-    let last = s.last_choice(part, i);
-    let mut at = ranked.at;
-    let mut choice = s.next_choice(part, i, 0);
-    while choice <= last {
-        let further = part.with_number(n, i, choice);
-        let found = all_inside(list, count, s, further, i + 1, at);
-        if !found.listed {
-            return found;
+}
+
+// Whether every region that is ahead of a walk which stands there is in the list.
+fn all_inside(list: &[u8], count: usize, s: Search, from: Stand, hint: usize) -> Found
+    requires { ⌜ Listed (s .clocks) (now list) count ⌝ }
+    requires { ⌜ Ascends (listed-rows (s .clocks .count) (now list) count) ⌝ }
+    requires { ⌜ Ready s ⌝ }
+    requires { ⌜ Standing s from ⌝ }
+    ensures { λ r. ⌜ AllPass (Ahead s from) (has (listed-rows (s .clocks .count) (now (list .entry)) count)) (r .listed) ⌝ }
+{
+    let mut at = from;
+    let mut last = hint;
+    while 0 < at.depth {
+        let seen = look(list, count, s, at, last);
+        if !seen.listed {
+            return Found {
+                listed: false,
+                at: seen.at,
+            };
         }
-        at = found.at;
-        choice = s.next_choice(part, i, choice + 1);
+        last = seen.at;
+        at = s.step(at, seen.done);
     }
     Found {
         listed: true,
-        at: at,
+        at: last,
     }
 }
 
@@ -97,22 +123,13 @@ pub fn leads_inside(
     requires { ⌜ guardsb (row-of (clocks .count) from) (edge-of (clocks .count) e .guards) ≡ true ⌝ }
     ensures { λ r. ⌜ r .listed ≡ every (has (listed-rows (clocks .count) (now (list .entry)) count)) (edge-rows (bounds-of clocks) (edge-of (clocks .count) e) (row-of (clocks .count) from)) ⌝ }
 {
-    let moves = from.moves(clocks, e);
-    if !moves.all_permit(clocks.count as usize) {
+    let way = open_way(clocks, from, e);
+    if !way.leads {
         return Found {
             listed: true,
             at: hint,
         };
     }
-    let s = Search {
-        clocks: clocks,
-        moves: moves,
-        floor: from,
-    };
-    let part = Region {
-        location: e.target,
-        intervals: [0; 4],
-        ranks: [0; 4],
-    };
-    all_inside(list, count, s, part, 1, hint)
+    let search = way.search;
+    all_inside(list, count, search, start_in(way.target), hint)
 }

@@ -27,13 +27,16 @@ before-at (x ∷ xs) [] i e l a h = absurd (omega arith)
 before-at (x ∷ xs) (y ∷ ys) zero e l a h = inl h
 before-at (x ∷ xs) (y ∷ ys) (suc i) e l a h = inr (a 0 (omega arith), before-at xs ys i (omega arith) (omega arith) (λ j k. a (suc j) (omega arith)) h)
 
-pub not-after : (xs ys : List ℕ) (i : ℕ) → length xs ≡ length ys → i < length xs → Agree i xs ys → Before xs ys → at xs i ≤ at ys i
-not-after [] ys i e l a b = absurd (omega arith)
-not-after (x ∷ xs) [] i e l a b = absurd (omega arith)
-not-after (x ∷ xs) (y ∷ ys) zero e l a (inl h) = omega arith
-not-after (x ∷ xs) (y ∷ ys) zero e l a (inr h) = omega arith
-not-after (x ∷ xs) (y ∷ ys) (suc i) e l a (inl h) = let q : x ≡ y = a 0 (omega arith) in absurd (omega arith)
-not-after (x ∷ xs) (y ∷ ys) (suc i) e l a (inr h) = not-after xs ys i (omega arith) (omega arith) (λ j k. a (suc j) (omega arith)) (h .1)
+pub before-where : (xs ys : List ℕ) → length xs ≡ length ys → Before xs ys → (j : ℕ) × (j < length xs) × Agree j ys xs × (at xs j < at ys j)
+before-where [] [] e b = absurd b
+before-where [] (y ∷ ys) e b = absurd (omega arith)
+before-where (x ∷ xs) [] e b = absurd b
+before-where (x ∷ xs) (y ∷ ys) e (inl h) = (0, omega arith, λ m l. absurd (omega arith), h)
+before-where (x ∷ xs) (y ∷ ys) e (inr (q, b)) = let (j, l, a, h) = before-where xs ys (omega arith) b in (suc j, omega arith, further j a, h)
+  where
+    further : (j : ℕ) → Agree j ys xs → Agree (suc j) (y ∷ ys) (x ∷ xs)
+    further j a zero l = sym q
+    further j a (suc m) l = a m (omega arith)
 
 -- rows ----------------------------------------------------------------------------------------------------------------------------------
 

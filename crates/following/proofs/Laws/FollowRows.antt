@@ -1,9 +1,9 @@
 -- The follower's loops: what has been counted or written after so many steps, and what each way out makes of it. Assumes nothing.
 use Prim.Native.Nat.{ℕ, _+_, _*_, _-_, _≤_, _<_}
-use Rattle.edge_walk.proofs.Laws.Next.{led-sorted}
+use Rattle.edge_walk.proofs.Laws.Way.{led-sorted}
 use Rattle.regions.proofs.Laws.Values.{row-region}
 use native.Mathlib.Omega.{arith}
-use mathlib.Core.Path.{_≡_, refl, sym, ap, _∙_}
+use mathlib.Core.Path.{_≡_, refl, sym, ap, subst, _∙_}
 use mathlib.Core.Bool.{true, false}
 use mathlib.Core.Option.{Option, none, some}
 use mathlib.Core.List.{List, [], _∷_, _++_, append-assoc, append-nil}
@@ -16,6 +16,8 @@ use Rattle.automata.specs.Edge.{Edge}
 use Rattle.automata.specs.Wait.{wait}
 use Rattle.automata.specs.Successors.{held, wait-rows}
 use Rattle.edge_walk.specs.Walk.{first-above}
+use Rattle.edge_walk.specs.Way.{way-rows}
+use Rattle.edge_walk.specs.declared.way.Way.{Way}
 use Rattle.regions.specs.Values.{bounds-of, row-of, edge-of, sought, found-of}
 use Rattle.regions.specs.declared.region.Clocks as clocks-code
 use Rattle.regions.specs.declared.region.Region.{Region}
@@ -162,6 +164,32 @@ module _ (k : clocks-code.Clocks) (four : length (k .bounds) ≡ 4) (r : Region)
     sorted = led-sorted (bounds-of k) (edge-of (k .count) e) (row-of (k .count) r);
     sized = λ s m. row-sized s (edge-rows-law (bounds-of k) (edge-of (k .count) e) (row-of (k .count) r) s (S .is-row) (E .bounded) .0 m .is-row);
   }
+
+-- what the loops go by is the edge's way: its clocks and its rows are these
+module _ (k : clocks-code.Clocks) (e : edge-code.Edge) (r : Region) (w : Way) (c : w .search .clocks ≡ k) (p : way-rows w ≡ rows-led k e r) where
+  pub by-way : (floor next : Sought) → next ≡ sought (first-above (found-of (w .search .clocks .count) floor) (way-rows w))
+      → next ≡ sought (first-above (found-of (k .count) floor) (rows-led k e r))
+  by-way floor next f = f ∙ (λ i. sought (first-above (found-of (c i .count) floor) (p i)))
+
+  of-way : (P : ℕ → List Row → Type 0) → P (w .search .clocks .count) (way-rows w) → P (k .count) (rows-led k e r)
+  of-way P h = subst (λ (rows : List Row). P (k .count) rows) p (subst (λ (j : clocks-code.Clocks). P (j .count) (way-rows w)) c h)
+
+  on-way : (P : ℕ → List Row → Type 0) → P (k .count) (rows-led k e r) → P (w .search .clocks .count) (way-rows w)
+  on-way P h = subst (λ (j : clocks-code.Clocks). P (j .count) (way-rows w)) (sym c) (subst (λ (rows : List Row). P (k .count) rows) (sym p) h)
+
+  module _ (room : ℕ) (floor : Sought) (left : ℕ) where
+    pub counted-of : Counted (w .search .clocks .count) (way-rows w) room floor left → Counted (k .count) (rows-led k e r) room floor left
+    counted-of = of-way (λ n rows. Counted n rows room floor left)
+
+    pub counted-on : Counted (k .count) (rows-led k e r) room floor left → Counted (w .search .clocks .count) (way-rows w) room floor left
+    counted-on = on-way (λ n rows. Counted n rows room floor left)
+
+  module _ (o buffer : List ℕ) (floor : Sought) (place count : ℕ) where
+    pub copied-of : Copied (w .search .clocks .count) (way-rows w) o buffer floor place count → Copied (k .count) (rows-led k e r) o buffer floor place count
+    copied-of = of-way (λ n rows. Copied n rows o buffer floor place count)
+
+    pub copied-on : Copied (k .count) (rows-led k e r) o buffer floor place count → Copied (w .search .clocks .count) (way-rows w) o buffer floor place count
+    copied-on = on-way (λ n rows. Copied n rows o buffer floor place count)
 
 -- what is answered and written ---------------------------------------------------------------------------------------------------
 

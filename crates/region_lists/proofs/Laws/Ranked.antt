@@ -1,5 +1,5 @@
 -- Rows that differ in their ranks alone stand together in an ascending list, and as many as there are rankings are all of them. Assumes nothing.
-use Prim.Native.Nat.{ℕ, zero, suc, _+_, _-_, _≤_, _<_}
+use Prim.Native.Nat.{ℕ, zero, suc, _+_, _*_, _-_, _≤_, _<_}
 use native.Mathlib.Decide.{ℕ-discrete}
 use native.Mathlib.Omega.{arith}
 use mathlib.Core.Path.{_≡_, refl, sym, ap, _∙_}
@@ -22,9 +22,11 @@ use Rattle.regions.specs.declared.region.Region.{Region}
 use Rattle.automata.proofs.Laws.Tests.{Says, eqb-law, and-law, refutes}
 use Rattle.automata.proofs.Laws.Checks.{same-law, belowb-law, has-law}
 use Rattle.automata.proofs.Laws.Rankings.{all-rankings}
-use Rattle.edge_walk.specs.Choice.{Agree, Goal}
-use Rattle.edge_walk.specs.Visit.{AllPass}
+use Rattle.edge_walk.specs.Choice.{Agree}
+use Rattle.edge_walk.specs.Stand.{Begun, Ahead}
+use Rattle.edge_walk.specs.Visit.{Seen}
 use Rattle.edge_walk.specs.declared.choice.Search.{Search}
+use Rattle.edge_walk.specs.declared.stand.Stand.{Stand}
 use Rattle.edge_walk.proofs.Laws.Numbers.{interval-number}
 use Rattle.region_lists.specs.Listed.{listed-row, listed-rows, Listed, Splits}
 use Rattle.region_lists.specs.Ranked.{besideb, AllRanked}
@@ -156,13 +158,14 @@ agree-beside n x part g long i e a = (a 0 (omega arith), ext-getD 0 (x .interval
     alike : (z : ℕ) → z < length (x .intervals) → at (x .intervals) z ≡ at (row-of n part .intervals) z
     alike z h = sym (interval-number n x g z (omega arith)) ∙ a (suc z) (omega arith) ∙ interval-number n (row-of n part) long z (omega arith)
 
--- where all intervals are chosen and the list has all rows of these, it has all that the part can become
-pub visit-ranked : (s : Search) (part : Region) (i : ℕ) (rows : List Row) → i ≡ 1 + s .clocks .count → length (bounds-of (s .clocks)) ≡ s .clocks .count
-    → length (row-of (s .clocks .count) part .intervals) ≡ s .clocks .count
-    → AllRanked (bounds-of (s .clocks)) rows (row-of (s .clocks .count) part) → AllPass (Goal s part i false) (has rows) true
-visit-ranked s part i rows e sized long all = record { passed = λ t x q. go x q; noticed = λ h. refl }
+-- a look where not all numbers are chosen: nothing is seen to be missing, and all is done if the intervals are chosen and the list has all rows of these
+pub seen-ranked : (s : Search) (a : Stand) (rows : List Row) → length (bounds-of (s .clocks)) ≡ s .clocks .count
+    → length (row-of (s .clocks .count) (a .part) .intervals) ≡ s .clocks .count → a .depth < 1 + 2 * s .clocks .count → (done : Bool)
+    → (done ≡ true → (a .depth ≡ 1 + s .clocks .count) × AllRanked (bounds-of (s .clocks)) rows (row-of (s .clocks .count) (a .part)))
+    → Seen s a (has rows) true done
+seen-ranked s a rows sized long within done all = record { passed = λ t d x q h. go x q h (all d); noticed = λ h. refl; on = λ f. within }
   where
-    go : (x : Row) → Goal s part i false x → has rows x ≡ true
-    go x q =
-        let (d, f) = agree-beside (s .clocks .count) x part (q .held .is-row .intervals-length ∙ sized) long i e (q .agrees) in
-        all x (q .held .is-row) d f
+    go : (x : Row) → Ahead s a x → Begun s a x → (a .depth ≡ 1 + s .clocks .count) × AllRanked (bounds-of (s .clocks)) rows (row-of (s .clocks .count) (a .part)) → has rows x ≡ true
+    go x q h (e, ranked) =
+        let (d, f) = agree-beside (s .clocks .count) x (a .part) (q .held .is-row .intervals-length ∙ sized) long (a .depth) e h in
+        ranked x (q .held .is-row) d f

@@ -1,56 +1,49 @@
 use denote.Ref.{now}
-use mathlib.Core.Path.{_≡_, refl, sym, _∙_}
-use mathlib.Core.Bool.{false}
+use mathlib.Core.Path.{_≡_, sym, subst, _∙_}
 use lib.ListN.{length}
-use borrow.Author.Tests.{not-true}
-use Rattle.automata.specs.Checks.{has}
-use Rattle.edge_walk.proofs.Laws.Next.{low-tops, ready, begins}
-use Rattle.edge_walk.proofs.Laws.Visit.{visit-none, visited}
-use Rattle.region_lists.specs.Listed.{listed-rows}
 use borrow.Author.Needs.{needs}
+use borrow.Author.Tests.{not-true, not-false}
+use Rattle.automata.specs.Closed.{Ascends}
+use Rattle.automata.specs.Checks.{every, has}
+use Rattle.regions.specs.declared.region.Clocks.{Clocks}
+use Rattle.edge_walk.proofs.Laws.Along.{starts}
+use Rattle.edge_walk.proofs.Laws.Visit.{visit-none, visited}
+use Rattle.region_lists.specs.Listed.{listed-rows, Listed}
 use Rattle.region_lists.proofs.inside.leads_inside.Statement.{statement}
 use Rattle.region_lists.proofs.inside.leads_inside.Tie as tie
 
--- the arrays have four numbers each
-bounds : (c : tie.Start) → length (c .args .clocks .bounds) ≡ 4
-bounds c = search needs
-
-from : (c : tie.Start) → length (c .args .from .intervals) ≡ 4
-from c = search needs
-
-moves-requires : tie.Need-moves-requires
-moves-requires c κs = search needs
-
-cast-all-permit : tie.Need-cast-all-permit
-cast-all-permit c = search needs
-
-all-permit-requires : tie.Need-all-permit-requires
-all-permit-requires c κs = let s = c .before .before .before in
-    let a = s .args in
-    (s .pre .0 .few .few, low-tops (a .clocks) (s .pre .0 .few) (bounds s) (a .from) (s .pre .1 .1 .1 .0) (a .e) (s .pre .1 .1 .0) (record { found = false; region = a .from }) _ (c .before .moves .ensures))
+open-way-requires : tie.Need-open-way-requires
+open-way-requires c κs = let s = c .before in (s .pre .0 .few, (s .pre .1 .1 .1 .0, s .pre .1 .1 .0))
 
 returns : tie.Need-returns
-returns c = let s = c .before .before .before .before .before in
+returns c = let s = c .before .before .before .before in
     let a = s .args in
-    visit-none (a .clocks) (s .pre .0 .few) (bounds s) (a .from) (s .pre .1 .1 .1 .0) (from s) (a .e) (s .pre .1 .1 .0) _ (c .before .before .before .moves .ensures) (has (listed-rows (a .clocks .count) (now (a .list)) (a .count))) (sym (c .before .all-permit .ensures) ∙ not-true _ (c .if1 .taken))
+    let way = c .before .before .open-way .ensures in
+    visit-none (c .before .before .open-way .result) (way .0) (has (listed-rows (a .clocks .count) (now (a .list)) (a .count))) (not-true _ (c .if1 .taken))
+    ∙ (λ i. every (has (listed-rows (a .clocks .count) (now (a .list)) (a .count))) (way .1 .1 (s .pre .1 .1 .1 .1 .0) (s .pre .1 .1 .1 .1 .1) i))
+
+start-in-requires : tie.Need-start-in-requires
+start-in-requires c κs = search needs
 
 all-inside-requires : tie.Need-all-inside-requires
-all-inside-requires c κs = let s = c .before .before .before .before .before in
+all-inside-requires c κs = let s = c .before .before .before .before .before .before in
     let a = s .args in
-    (s .pre .0, (s .pre .1 .0, (ready (a .clocks) (s .pre .0 .few) (bounds s) (a .from) (s .pre .1 .1 .1 .0) (a .e) (s .pre .1 .1 .0) (record { found = false; region = a .from }) _ (c .before .before .before .moves .ensures), begins (a .clocks) (s .pre .0 .few) (bounds s) (a .from) (s .pre .1 .1 .1 .0) (a .e) (s .pre .1 .1 .0) (record { found = false; region = a .from }) _ (c .before .before .before .moves .ensures) false refl)))
+    let way = c .before .before .before .before .open-way .ensures in
+    (subst (λ (k : Clocks). Listed k (now (a .list)) (a .count)) (sym (way .1 .0)) (s .pre .0), (subst (λ (k : Clocks). Ascends (listed-rows (k .count) (now (a .list)) (a .count))) (sym (way .1 .0)) (s .pre .1 .0), (way .0, rw (c .start-in .ensures) (starts (c .before .before .before .before .open-way .result) (way .0) (not-false _ (c .before .before .if1 .left))))))
 
 returns-2 : tie.Need-returns-2
-returns-2 c = let s = c .before .before .before .before .before .before in
+returns-2 c = let s = c .before .before .before .before .before .before .before in
     let a = s .args in
-    visited (a .clocks) (s .pre .0 .few) (bounds s) (a .from) (s .pre .1 .1 .1 .0) (from s) (a .e) (s .pre .1 .1 .0) _ (c .before .before .before .before .moves .ensures) (has (listed-rows (a .clocks .count) (now (a .list)) (a .count))) (s .pre .1 .1 .1 .1 .0) (s .pre .1 .1 .1 .1 .1) _ (c .all-inside .ensures)
+    let way = c .before .before .before .before .before .open-way .ensures in
+    visited (c .before .before .before .before .before .open-way .result) (way .0) (has (listed-rows (c .before .before .before .before .before .open-way .result .search .clocks .count) (now (a .list)) (a .count))) (not-false _ (c .before .before .before .if1 .left)) _ (rw (c .before .start-in .ensures) at (c .all-inside .ensures))
+    ∙ (λ i. every (has (listed-rows (way .1 .0 i .count) (now (a .list)) (a .count))) (way .1 .1 (s .pre .1 .1 .1 .1 .0) (s .pre .1 .1 .1 .1 .1) i))
 
 pub leads-inside-spec : {M : Type 1} → statement M
 leads-inside-spec =
     tie.close
     (tie.spec
-    moves-requires
-    cast-all-permit
-    all-permit-requires
+    open-way-requires
     returns
+    start-in-requires
     all-inside-requires
     returns-2)
