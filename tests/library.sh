@@ -1,6 +1,6 @@
 #!/usr/bin/env bash
 # What the static library holds, needs and uses: three functions outward, nothing from outside but memory copies of the C library, no memory that
-# could keep anything between calls, and a bounded stack. The last line is 'N passed, M failed'.
+# could keep anything between calls, no recursion, and a bounded stack. The last line is 'N passed, M failed'.
 set -u
 cd "$(dirname "$0")/.." || exit 1
 # as it is installed: made of the archive that rt has written, with nothing added
@@ -16,25 +16,31 @@ bad() { failed=$((failed + 1)); echo "library: $*"; }
 # is WHAT EXPECTED GOT
 is() { if [ "$2" = "$3" ]; then ok; else bad "$1: '$3', expected '$2'"; fi; }
 
-# stack.awk on code made up: two functions, of which one calls itself, and then with one line more
+# stack.awk on code made up: two functions, of which the last jumps back to where it begins, as it does where a call of itself at the end was made
+# a loop; and then with lines more
 made_up() {
   printf '%s\n' '0000 <outer>:' ' 0: push   %rbx' ' 1: sub    $0x20,%rsp' ' 5: call   a <outer+0xa>' '  6: R_X86_64_PLT32 inner-0x4' ' a: ret' \
-    '0000 <inner>:' ' 0: add    $0xffffffffffffff80,%rsp' ' 4: call   0 <inner>' ' 9: ret' "$@"
+    '0000 <inner>:' ' 0: add    $0xffffffffffffff80,%rsp' ' 4: jne    0 <inner>' ' 9: ret' "$@"
 }
-bound() { awk -v outward=outer -v levels="$1" -f tests/stack.awk 2> /dev/null; }
-is 'the bound of code made up' 'outer 584' "$(made_up | bound inner=3)"
-# noticed WHAT LEVELS LINES..: the code with these lines more has no bound
+# the bound, or what is wrong
+bound() { awk -v outward=outer -f tests/cycles.awk -f tests/stack.awk 2>&1; }
+is 'the bound of code made up' 'outer 312' "$(made_up | bound)"
+# noticed WHAT SAID LINES..: the code with these lines more has no bound, and this is said, in its first line
 noticed() {
-  local what=$1 levels=$2
+  local what=$1 said=$2 got
   shift 2
-  if made_up "$@" | bound "$levels" > /dev/null; then bad "goes unnoticed: $what"; else ok; fi
+  if got=$(made_up "$@" | bound); then bad "goes unnoticed: $what"; else is "$what" "stack: $said" "${got%%$'\n'*}"; fi
 }
-noticed 'recursion without a limit' ''
-noticed 'a call through a pointer' inner=3 ' a: call   *%rax'
-noticed 'a frame of any size' inner=3 ' a: sub    %rax,%rsp'
-noticed 'an aligned frame' inner=3 ' a: and    $0xffffffffffffffe0,%rsp'
-noticed 'a frame pointer' inner=3 ' a: leave'
-noticed 'a function from outside' inner=3 ' a: call   0 <elsewhere>'
+noticed 'a function that calls itself' 'inner calls itself' ' a: call   0 <inner>'
+noticed 'a function that calls itself, by a line for the linker' 'inner calls itself' ' a: call   f <inner+0xf>' '  b: R_X86_64_PLT32 inner-0x4'
+noticed 'recursion by way of another function' 'outer calls itself by way of inner' ' a: call   0 <outer>'
+noticed 'recursion by a jump to another function' 'outer calls itself by way of inner' ' a: jmp    0 <outer>'
+noticed 'recursion that nothing outward leads to' 'apart calls itself' '0000 <apart>:' ' 0: call   0 <apart>'
+noticed 'a call through a pointer' 'a call through a pointer in inner' ' a: call   *%rax'
+noticed 'a frame of any size' 'the stack pointer moves: sub    %rax,%rsp in inner' ' a: sub    %rax,%rsp'
+noticed 'an aligned frame' 'the stack pointer moves: and    $0xffffffffffffffe0,%rsp in inner' ' a: and    $0xffffffffffffffe0,%rsp'
+noticed 'a frame pointer' 'the stack pointer moves: leave in inner' ' a: leave'
+noticed 'a function from outside' 'a function from outside: elsewhere in inner' ' a: call   0 <elsewhere>'
 
 if ! command -v objdump > /dev/null; then
   bad "no command 'objdump' on the PATH: it comes with binutils, as nm and size do"
