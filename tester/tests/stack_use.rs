@@ -51,8 +51,9 @@ fn used_at_random(function: Function, call: Call, seed: u64) -> usize {
 }
 
 /// Two clocks that are kept and two that an edge makes anything of, and all rows that are
-/// reached: the kept ones are always equal, so that the visit goes down to the last rank.
-fn used_by_the_deepest_visit() -> usize {
+/// reached: the kept ones are always equal, so that the visit chooses all intervals and all
+/// ranks, eight numbers, and not the intervals alone.
+fn used_by_the_visit_of_most_choices() -> usize {
     let free = constant(AtLeast, 0);
     let updates = [Update::Keep, Update::Keep, free, free];
     let automaton = automaton(&[1, 1, 1, 1], &[false], vec![edge(0, 0, &[], &updates)]);
@@ -79,7 +80,7 @@ fn the_stack_used_is_within_the_bounds() {
     for (function, call) in calls {
         let mut used = used_at_random(function, call, seed);
         if function == Function::CheckRegions {
-            used = used.max(used_by_the_deepest_visit());
+            used = used.max(used_by_the_visit_of_most_choices());
         }
         let bound = bounds[function.name()];
         println!("{}: {used} bytes used, bound {bound}", function.name());
