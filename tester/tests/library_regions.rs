@@ -383,8 +383,7 @@ fn comparing(random: &mut Random, bounds: &[u8], own: usize) -> Update {
         return Update::Keep;
     }
     let other = random.below(bounds.len());
-    let least = i16::from(bounds[own]) - i16::from(bounds[other]);
-    let offset = least + random.below(3) as i16;
+    let offset = tables::least_offset(bounds, own, other) + random.below(3) as i16;
     clock(random.pick(&Comparison::ALL), other as u8, offset)
 }
 

@@ -143,7 +143,7 @@ fn deterministic() -> Automaton {
         1 => set(random.below(2) as u8),
         _ => {
             let clock = random.below(4);
-            let least = i16::from(bounds[own]) - i16::from(bounds[clock]);
+            let least = tables::least_offset(&bounds, own, clock);
             Update::Clock {
                 comparison: Comparison::Equal,
                 clock: clock as u8,
