@@ -1,13 +1,17 @@
 //! The checker's time beside that of the rules, on the same input in the same
-//! run: `benchmark [REPETITIONS]`, to be built for release.
+//! run: `benchmark [REPETITIONS [PART]]`, to be built for release. The parts are
+//! admission, run, lists and followings; without one it is all of them.
 //!
 //! The two sides take turns, and the best processor time of each counts, so that
 //! other work on the machine disturbs the ratio as little as it can.
 
 use std::hint::black_box;
+use tzelmaruf_tester::answer::Answer;
 use tzelmaruf_tester::automaton::*;
+use tzelmaruf_tester::compare::wide;
 use tzelmaruf_tester::cpu_time::cpu_time;
 use tzelmaruf_tester::explore::closure;
+use tzelmaruf_tester::follow;
 use tzelmaruf_tester::format::encode_table;
 use tzelmaruf_tester::generate::{tables, Random, Shape};
 use tzelmaruf_tester::region::{all_rows, Region};
@@ -22,7 +26,7 @@ struct Times {
 }
 
 /// Seconds of one call, as the mean of `calls` in a row. The answer has to be `expected`.
-fn seconds(calls: u32, expected: u32, call: &mut dyn FnMut() -> u32) -> f64 {
+fn seconds(calls: u32, expected: u64, call: &mut dyn FnMut() -> u64) -> f64 {
     let start = cpu_time();
     for _ in 0..calls {
         assert_eq!(black_box(call()), expected);
@@ -38,9 +42,9 @@ struct Effort {
 
 fn compete(
     effort: &Effort,
-    expected: u32,
-    checker: &mut dyn FnMut() -> u32,
-    rules: &mut dyn FnMut() -> u32,
+    expected: u64,
+    checker: &mut dyn FnMut() -> u64,
+    rules: &mut dyn FnMut() -> u64,
 ) -> Times {
     let mut best = Times {
         checker: f64::INFINITY,
@@ -56,7 +60,7 @@ fn compete(
 fn print(name: &str, times: &Times) {
     let Times { checker, rules } = times;
     let ratio = checker / rules;
-    println!("| {name:<58} | {checker:>10.6} | {rules:>10.6} | {ratio:>6.2} |");
+    println!("| {name:<58} | {checker:>11.7} | {rules:>11.7} | {ratio:>6.2} |");
 }
 
 /// A list that is accepted, on both sides.
@@ -66,11 +70,11 @@ fn time_list(name: &str, effort: Effort, automaton: &Automaton, rows: &[Region])
     let (same_table, same_list) = (table.clone(), list.clone());
     let times = compete(
         &effort,
-        rows.len() as u32,
-        &mut || library::check_regions(black_box(&mut table), black_box(&mut list)),
+        rows.len() as u64,
+        &mut || library::check_regions(black_box(&mut table), black_box(&mut list)).into(),
         &mut || {
             let answer = check_regions(black_box(&same_table), black_box(&same_list));
-            answer.least().packed()
+            answer.least().packed().into()
         },
     );
     let clocks = automaton.clocks();
@@ -343,9 +347,9 @@ fn time_admission(repetitions: u32) {
     };
     let times = compete(
         &effort,
-        largest.records() as u32,
-        &mut || library::admit(black_box(&mut table)),
-        &mut || admit(black_box(&same)).packed(),
+        largest.records() as u64,
+        &mut || library::admit(black_box(&mut table)).into(),
+        &mut || admit(black_box(&same)).packed().into(),
     );
     let name = format!("admission of the largest table, {} bytes", same.len());
     print(&name, &times);
@@ -390,23 +394,144 @@ fn time_run(repetitions: u32) {
     let times = compete(
         &effort,
         2_048,
-        &mut || library::check_run(black_box(&mut table), black_box(&mut list)),
-        &mut || check_run(black_box(&same_table), black_box(&same_list)).packed(),
+        &mut || library::check_run(black_box(&mut table), black_box(&mut list)).into(),
+        &mut || {
+            let answer = check_run(black_box(&same_table), black_box(&same_list));
+            answer.packed().into()
+        },
     );
     print("run of 2,048 steps", &times);
 }
 
+/// Following the only edge of a table from one row into one buffer, on both sides. Both sides count the next rows and then go over them again to write them; the buffers
+/// are there before, and in the end every byte of them has to be the same.
+fn time_following(name: &str, effort: &Effort, automaton: &Automaton, row: Region, room: usize) {
+    let (mut table, mut record) = (encode_table(automaton), row.record(automaton.clocks()));
+    let (same_table, same_record) = (table.clone(), record.clone());
+    let mut filled = vec![0xA5; room];
+    let mut expected = filled.clone();
+    let answer = follow(&table, &record, 0, &mut expected);
+    let times = compete(
+        effort,
+        wide(answer),
+        &mut || {
+            let (table, record) = (black_box(&mut table), black_box(&mut record));
+            library::follow(table, record, 0, black_box(&mut filled))
+        },
+        &mut || {
+            let (table, record) = (black_box(&same_table), black_box(&same_record));
+            wide(follow(table, record, 0, black_box(&mut expected)))
+        },
+    );
+    assert!(filled == expected, "{name}: the buffers differ");
+    let outcome = match answer {
+        Answer::Accepted(count) => format!("next rows {count}"),
+        Answer::Refused { number, .. } => format!("refused by {number}"),
+    };
+    print(&format!("following, {name}: {outcome}"), &times);
+}
+
+/// A table of four clocks with one edge, given by the update of each clock.
+fn of_one_edge(bounds: [u8; 4], update: impl Fn(usize) -> Update) -> Automaton {
+    let edge = Edge {
+        source: 0,
+        target: 0,
+        guards: vec![],
+        updates: (0..4).map(update).collect(),
+    };
+    of_locations(1, &bounds, vec![edge])
+}
+
+fn against_constant(comparison: Comparison, constant: u8) -> Update {
+    Update::Constant {
+        comparison,
+        constant,
+    }
+}
+
+/// The clock's new value is not below the old one of the clock after it, plus the least offset.
+fn at_least_the_next(bounds: [u8; 4]) -> Automaton {
+    of_one_edge(bounds, |own| {
+        let next = (own + 1) % 4;
+        Update::Clock {
+            comparison: Comparison::AtLeast,
+            clock: next as u8,
+            offset: tables::least_offset(&bounds, own, next),
+        }
+    })
+}
+
+/// Two clocks that are kept and two of which an edge makes anything: how the kept ones rank
+/// among the others is left out in many choices.
+fn two_kept_of_four(bounds: [u8; 4]) -> Automaton {
+    of_one_edge(bounds, |own| match own {
+        0 | 1 => Update::Keep,
+        _ => against_constant(Comparison::AtLeast, 0),
+    })
+}
+
+/// Keeps, a copy and a reset: one next row.
+fn one_next(bounds: [u8; 4]) -> Automaton {
+    of_one_edge(bounds, |own| match own {
+        1 => Update::Clock {
+            comparison: Comparison::Equal,
+            clock: 0,
+            offset: tables::least_offset(&bounds, 1, 0),
+        },
+        2 => set(0),
+        _ => Update::Keep,
+    })
+}
+
+/// Buffers of ten million bytes, filled nearly or in good part, and one that is too short for the
+/// rows; last, many calls with a short one.
+fn time_followings(repetitions: u32) {
+    const LONG: usize = 10_000_000;
+    let effort = |calls| Effort { repetitions, calls };
+    let free = |bounds| of_one_edge(bounds, |_| against_constant(Comparison::AtLeast, 0));
+    let all_but = |bounds| of_one_edge(bounds, |_| against_constant(Comparison::NotEqual, 4));
+    // 905,392 rows of eleven bytes
+    let bounds = [10, 8, 8, 8];
+    let parted = Region::new(0, &[1, 3, 1, 3], &[2, 1, 3, 2]);
+    for (name, automaton) in [
+        ("every row, and they do not fit", free([127; 4])),
+        ("every row", free(bounds)),
+        ("≠ a constant", all_but(bounds)),
+        ("≥ another clock", at_least_the_next(bounds)),
+        ("two clocks kept", two_kept_of_four([9, 9, 127, 127])),
+    ] {
+        time_following(name, &effort(1), &automaton, parted, LONG);
+    }
+    let automaton = one_next([9; 4]);
+    time_following("deterministic", &effort(100_000), &automaton, parted, 100);
+}
+
+/// A name, and what times the part, each side so many times.
+type Part = (&'static str, fn(u32));
+
+const PARTS: [Part; 4] = [
+    ("admission", time_admission),
+    ("run", time_run),
+    ("lists", time_lists),
+    ("followings", time_followings),
+];
+
 fn main() {
-    let given = std::env::args().nth(1).and_then(|text| text.parse().ok());
-    let repetitions = given.unwrap_or(3);
+    let given: Vec<String> = std::env::args().skip(1).collect();
+    let repetitions = given
+        .first()
+        .and_then(|text| text.parse().ok())
+        .unwrap_or(3);
     println!("best of {repetitions}, seconds of processor time; ratio: checker to rules\n");
     let head = ["", "checker", "rules", "ratio"];
     println!(
-        "| {:<58} | {:>10} | {:>10} | {:>6} |",
+        "| {:<58} | {:>11} | {:>11} | {:>6} |",
         head[0], head[1], head[2], head[3]
     );
     println!("|---|---:|---:|---:|");
-    time_admission(repetitions);
-    time_run(repetitions);
-    time_lists(repetitions);
+    for (name, time) in PARTS {
+        if given.get(1).is_none_or(|only| only == name) {
+            time(repetitions);
+        }
+    }
 }
