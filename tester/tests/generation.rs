@@ -263,8 +263,11 @@ fn not_equal_comes_everywhere() {
     }
 }
 
-/// Makes each '≠' of an edge hold always: those of guards, of constant or of clock updates.
-const FREEING: [(&str, fn(&mut Edge)); 3] = [
+/// A name, and what makes some of an edge's '≠' hold always.
+type Freeing = (&'static str, fn(&mut Edge));
+
+/// Those of guards, of constant or of clock updates.
+const FREEING: [Freeing; 3] = [
     ("guard", |edge| {
         edge.guards.retain(|guard| guard.comparison != NotEqual)
     }),
