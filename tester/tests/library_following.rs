@@ -11,7 +11,7 @@ use tzelmaruf_tester::follow::{next_rows, WAIT};
 use tzelmaruf_tester::format::{encode_table, table_records};
 use tzelmaruf_tester::generate::systematic::*;
 use tzelmaruf_tester::generate::{follow_case, rows, run_case, seed, tables, Random, Shape};
-use tzelmaruf_tester::region::{all_rows, row_length, Region};
+use tzelmaruf_tester::region::{all_rows, row_length, top, Region};
 use tzelmaruf_tester::successor::by_intervals::is_enabled;
 use tzelmaruf_tester::tally::OF_FOLLOWING;
 use tzelmaruf_tester::{library, needs_probe};
@@ -118,6 +118,122 @@ fn every_edge_and_waiting() {
     assert!(followed.taken > 500 && followed.elsewhere > 500 && followed.guard_fails > 100);
     assert!(followed.to_no_rows > 10);
     comparer.finish(&[0, 19]);
+}
+
+/// How a walk that goes from each next row to the one after it steps: which of a row's numbers,
+/// intervals and then ranks, is the first to change, so that those behind it had come to their
+/// ends, and where it changes by more than one, so that a choice in the middle is left out.
+#[derive(Debug)]
+struct Walked {
+    clocks: usize,
+    changed: Vec<usize>,
+    left_out: Vec<usize>,
+    rows: usize,
+    most_rows: usize,
+    from_the_top: usize,
+}
+
+impl Walked {
+    fn new(clocks: usize) -> Walked {
+        Walked {
+            clocks,
+            changed: vec![0; 2 * clocks],
+            left_out: vec![0; 2 * clocks],
+            rows: 0,
+            most_rows: 0,
+            from_the_top: 0,
+        }
+    }
+
+    fn count(&mut self, automaton: &Automaton, row: Region) {
+        let numbers = |row: &Region| row.record(self.clocks)[3..].to_vec();
+        let rows: Vec<_> = next_rows(automaton, row, 0)
+            .map(|row| numbers(&row))
+            .collect();
+        for pair in rows.windows(2) {
+            let (one, next) = (&pair[0], &pair[1]);
+            let first = (0..one.len()).find(|at| one[*at] != next[*at]).unwrap();
+            self.changed[first] += 1;
+            self.left_out[first] += usize::from(next[first] - one[first] > 1);
+        }
+        let mut bounds = automaton.bounds.iter().enumerate();
+        let is_at_the_top = bounds.any(|(clock, bound)| row.interval(clock) == top(*bound));
+        self.rows += rows.len();
+        self.most_rows = self.most_rows.max(rows.len());
+        self.from_the_top += usize::from(is_at_the_top);
+    }
+
+    /// Each number was the first to change, the rank of an only clock aside, and by more than one
+    /// each interval and, from three clocks on, some rank.
+    fn finish(&self) {
+        println!("{self:?}");
+        let clocks = self.clocks;
+        let numbers = if clocks == 1 { 1 } else { 2 * clocks };
+        assert!(self.changed[..numbers].iter().all(|times| *times > 20));
+        assert!(self.left_out[..clocks].iter().all(|times| *times > 20));
+        assert!(clocks < 3 || self.left_out[clocks..].iter().sum::<usize>() > 20);
+        assert!(self.from_the_top > 20);
+    }
+}
+
+/// Edges that update one to four clocks in every way, mostly so that choices are left out, into
+/// every buffer: each next row, also where a walk has to step back over all other numbers.
+#[test]
+fn choices_left_out() {
+    let seed = seed(30_406);
+    println!("seed {seed}: 2,000 edges for each number of clocks");
+    let mut comparer = Comparer::new("choices left out");
+    for clocks in 1..=4 {
+        let mut walked = Walked::new(clocks);
+        for number in 0..2_000 {
+            let mut random = Random::of_case(seed, number);
+            let (automaton, row) = edge_that_leaves_out(&mut random, clocks, 0);
+            let case = format_args!("seed {seed} case {number} of {clocks} clocks");
+            follow_into_all(&mut comparer, case, &automaton, row, 0);
+            walked.count(&automaton, row);
+        }
+        walked.finish();
+    }
+    comparer.finish(&[0, 19]);
+}
+
+/// By hand: the first clock takes any value but 1, the second any but 0. So the interval 2 of the
+/// first is left out in the middle, and the interval 0 of the second where it begins; behind the
+/// last interval and the last ranks the walk steps back to the first clock.
+#[test]
+fn choices_left_out_by_hand() {
+    let updates = [constant(NotEqual, 1), constant(NotEqual, 0)];
+    let automaton = automaton(&[1, 1], &[false], vec![edge(0, 0, &[], &updates)]);
+    let numbers = [
+        [0, 1, 0, 1],
+        [0, 2, 0, 0],
+        [0, 3, 0, 0],
+        [1, 1, 1, 1],
+        [1, 1, 1, 2],
+        [1, 1, 2, 1],
+        [1, 2, 1, 0],
+        [1, 3, 1, 0],
+        [3, 1, 0, 1],
+        [3, 2, 0, 0],
+        [3, 3, 0, 0],
+    ];
+    let due: Vec<u8> = numbers
+        .iter()
+        .flat_map(|numbers| [b"RW\0", &numbers[..]].concat())
+        .collect();
+    let (mut table, mut row) = (
+        encode_table(&automaton),
+        Region::initial(&automaton).record(2),
+    );
+    let mut buffer = patterned(due.len() + 10);
+    let answer = library::follow(&mut table, &mut row, 0, &mut buffer);
+    assert_eq!(answer, 11);
+    assert_eq!(buffer[..due.len()], due);
+    assert_eq!(buffer[due.len()..], patterned(due.len() + 10)[due.len()..]);
+    let mut short = patterned(due.len() - 1);
+    let answer = library::follow(&mut table, &mut row, 0, &mut short);
+    assert_eq!(answer, wide(refused(19, 0)));
+    assert_eq!(short, patterned(due.len() - 1));
 }
 
 /// Waiting and two edges from all rows of one table.
@@ -279,18 +395,49 @@ fn odd_files() {
     comparer.finish(&[0, 1, 7, 9]);
 }
 
-/// An edge to more rows than sixteen bits count, into a buffer that just holds
+/// Edges to more rows than sixteen bits count, into a buffer that just holds
 /// them, one that doesn't, and one that is longer.
 #[test]
 fn very_many_rows() {
     let mut comparer = Comparer::new("very many rows");
-    let wide = edge(0, 0, &[], &[constant(AtLeast, 0); 2]);
-    let automaton = automaton(&[127; 2], &[false], vec![wide]);
-    let row = Region::initial(&automaton);
-    let count = next_rows(&automaton, row, 0).count();
-    assert!(count > 65_536);
-    println!("{count} rows");
-    follow_into_all(&mut comparer, format_args!("wide"), &automaton, row, 0);
+    let free = constant(AtLeast, 0);
+    let left_out = [constant(NotEqual, 3), free, clock(NotEqual, 0, 0), free];
+    for (bounds, updates) in [(&[127; 2][..], &[free; 2][..]), (&[5; 4], &left_out)] {
+        let automaton = automaton(bounds, &[false], vec![edge(0, 0, &[], updates)]);
+        let row = Region::initial(&automaton);
+        let count = next_rows(&automaton, row, 0).count();
+        assert!(count > 65_536);
+        println!("{count} rows");
+        follow_into_all(
+            &mut comparer,
+            format_args!("{bounds:?}"),
+            &automaton,
+            row,
+            0,
+        );
+    }
+    comparer.finish(&[0, 19]);
+}
+
+/// Clocks of the greatest bound that go to the last intervals, 253 to 255, and in turn one of them
+/// that leaves out one interval of all, 254, or a part in 253.
+#[test]
+fn greatest_bounds() {
+    let mut comparer = Comparer::new("greatest bounds");
+    for clocks in 1..=4 {
+        for own in 0..clocks {
+            let mut updates = vec![constant(Greater, 126); clocks];
+            updates[own] = clock(NotEqual, own as u8, 0);
+            let bounds = vec![127; clocks];
+            let automaton = automaton(&bounds, &[false], vec![edge(0, 0, &[], &updates)]);
+            for interval in [253, 254] {
+                let ranks = vec![u8::from(interval == 253); clocks];
+                let row = row(&vec![interval; clocks], &ranks);
+                let case = format_args!("{clocks} clocks, {own} not equal");
+                follow_into_all(&mut comparer, case, &automaton, row, 0);
+            }
+        }
+    }
     comparer.finish(&[0, 19]);
 }
 

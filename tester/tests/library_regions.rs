@@ -3,6 +3,7 @@
 mod common;
 use common::*;
 
+use std::collections::BTreeSet;
 use std::fmt;
 use tzelmaruf_tester::automaton::{Automaton, Comparison, Update};
 use tzelmaruf_tester::compare::Comparer;
@@ -12,6 +13,7 @@ use tzelmaruf_tester::generate::systematic::*;
 use tzelmaruf_tester::generate::{regions_case, rows, run_case, seed, tables, Random, Shape};
 use tzelmaruf_tester::region::{all_rows, is_row, Region};
 use tzelmaruf_tester::region_list::{encode_regions, region_records};
+use tzelmaruf_tester::successor::NextRows;
 use tzelmaruf_tester::tally::OF_REGIONS;
 use tzelmaruf_tester::{library, needs_checker};
 
@@ -421,6 +423,103 @@ fn edges_that_compare_clocks() {
         }
     }
     comparer.finish_with_positions(&[0, 16, 17], &[17]);
+}
+
+/// Location 0 with the rows that waiting leads to from the initial row and from another, an edge
+/// from there that leaves choices out, and location 1 with all of its rows: a closed list, of which
+/// the edge asks for some rows, and for others between them it does not.
+fn all_rows_behind_an_edge(random: &mut Random, clocks: usize) -> Closed {
+    let (automaton, row) = edge_that_leaves_out(random, clocks, 1);
+    let starts = [Region::initial(&automaton), row];
+    let mut rows = closure_from(&automaton, &starts, 20_000).rows;
+    rows.retain(|row| row.location() == 0);
+    let all = all_rows(&automaton, 20_000).unwrap();
+    rows.extend(all.iter().filter(|row| row.location() == 1));
+    Closed::new(automaton, rows)
+}
+
+/// What came of lists that lack rows of the target.
+#[derive(Debug, Default)]
+struct Missed {
+    one: usize,
+    several: usize,
+    none: usize,
+}
+
+/// Each row of the target left out, in large lists fewer of them, and all rows with it from which
+/// waiting leads to it. So no row is missed by waiting: the list is refused just where the edge
+/// leads to one that is left out, and at a row of its source.
+fn leave_out_each(comparer: &mut Comparer, case: fmt::Arguments, closed: &Closed) -> Missed {
+    let automaton = &closed.automaton;
+    let first = closed.rows.partition_point(|row| row.location() == 0);
+    let (sources, targets) = closed.rows.split_at(first);
+    let next_of = |row: &Region| NextRows::new(automaton, &automaton.edges[0], *row);
+    let led_to: BTreeSet<Region> = sources.iter().flat_map(next_of).collect();
+    let wait_of = |row: &Region| Some((*row, row.time_successor(&automaton.bounds)?));
+    let waits: Vec<(Region, Region)> = targets.iter().filter_map(wait_of).collect();
+    let mut missed = Missed::default();
+    for (index, row) in targets.iter().enumerate() {
+        let once_in = if led_to.contains(row) { 2 } else { 8 };
+        if targets.len() > 150 && index % once_in > 0 {
+            continue;
+        }
+        let left_out = all_waiting_for(*row, &waits);
+        let without = closed.rows.iter().filter(|row| !left_out.contains(row));
+        let without: Vec<Region> = without.copied().collect();
+        let case = format_args!("{case} without {left_out:?}");
+        let met = comparer.regions(case, &closed.table, &closed.list(&without));
+        match led_to.intersection(&left_out).count() {
+            0 => {
+                missed.none += 1;
+                assert_eq!((met.number, met.place), (0, without.len() as u32), "{case}");
+            }
+            count => {
+                missed.one += usize::from(count == 1);
+                missed.several += usize::from(count > 1);
+                let is_source = (1..=sources.len() as u32).contains(&met.place);
+                assert!(met.number == 17 && is_source, "{case}: {met:?}");
+            }
+        }
+    }
+    missed
+}
+
+/// A row, and all rows from which waiting leads to it in the end, by pairs of a row and the next.
+fn all_waiting_for(row: Region, waits: &[(Region, Region)]) -> BTreeSet<Region> {
+    let mut found = BTreeSet::from([row]);
+    loop {
+        let before = found.len();
+        for (row, next) in waits {
+            if found.contains(next) {
+                found.insert(*row);
+            }
+        }
+        if found.len() == before {
+            return found;
+        }
+    }
+}
+
+#[test]
+fn edges_that_leave_choices_out() {
+    let seed = seed(30_312);
+    println!("seed {seed}: 50 automata for each number of clocks");
+    let mut comparer = Comparer::new("edges that leave choices out");
+    for clocks in 1..=4 {
+        let mut total = Missed::default();
+        for number in 0..50 {
+            let closed = all_rows_behind_an_edge(&mut Random::of_case(seed, number), clocks);
+            let case = format_args!("seed {seed} case {number} of {clocks} clocks");
+            closed.accepted(&mut comparer, case, &closed.rows);
+            let missed = leave_out_each(&mut comparer, case, &closed);
+            total.one += missed.one;
+            total.several += missed.several;
+            total.none += missed.none;
+        }
+        println!("{clocks} clocks: {total:?}");
+        assert!(total.one > 10 && total.several > 10 && total.none > 10);
+    }
+    comparer.finish(&[0, 17]);
 }
 
 /// Every spoiled form of the list with the table whole, and the other way round.

@@ -4,8 +4,8 @@
 use tzelmaruf_tester::answer::Answer;
 use tzelmaruf_tester::automaton::*;
 use tzelmaruf_tester::explore::{Move, PathStep};
-use tzelmaruf_tester::generate::{tables, Random, Shape};
-use tzelmaruf_tester::region::Region;
+use tzelmaruf_tester::generate::{rows, tables, Random, Shape};
+use tzelmaruf_tester::region::{region_of, Region};
 use tzelmaruf_tester::successor::NextRows;
 
 pub use tzelmaruf_tester::answer::hex;
@@ -94,6 +94,57 @@ pub fn all_updates(bounds: &[u8], own: usize) -> Vec<Update> {
         }
     }
     updates
+}
+
+/// Bounds for tables of one to four clocks that have choices in the middle, and yet so few rows that
+/// all of them can be gone through.
+const BOUNDS_BY_CLOCKS: [&[&[u8]]; 4] = [
+    &[&[6], &[3], &[0]],
+    &[&[3, 3], &[4, 1], &[1, 4]],
+    &[&[2, 1, 1], &[1, 2, 1], &[1, 1, 2], &[2, 2, 2]],
+    &[&[1, 1, 1, 1], &[2, 1, 1, 1], &[1, 1, 1, 2], &[1, 0, 2, 1]],
+];
+
+/// An update that leaves out a whole value or a part in the middle, or one of any kind.
+fn leaving_out(random: &mut Random, bounds: &[u8], own: usize) -> Update {
+    match random.below(5) {
+        0 => Update::Keep,
+        1 => constant(NotEqual, random.below(usize::from(bounds[own]) + 1) as u8),
+        2 => {
+            let other = random.below(bounds.len());
+            let offset = tables::least_offset(bounds, own, other);
+            clock(NotEqual, other as u8, offset)
+        }
+        _ => tables::changing_update(random, bounds, own),
+    }
+}
+
+/// An edge from location 0, and a row from which a walk over its next rows has to leave out choices:
+/// intervals, or, in half the cases, ranks, as all clocks are between 0 and 1, and each one is
+/// kept or compared with one of them.
+pub fn edge_that_leaves_out(random: &mut Random, clocks: usize, target: u8) -> (Automaton, Region) {
+    let is_by_parts = random.once_in(2);
+    let ones = vec![1; clocks];
+    let bounds = match is_by_parts {
+        true => &ones,
+        false => random.pick(BOUNDS_BY_CLOCKS[clocks - 1]),
+    };
+    let updates = (0..clocks).map(|own| match is_by_parts {
+        true if random.once_in(3) => Update::Keep,
+        true => clock(tables::comparison(random), random.below(clocks) as u8, 0),
+        false => leaving_out(random, bounds, own),
+    });
+    let updates: Vec<Update> = updates.collect();
+    let finals = vec![false; usize::from(target) + 1];
+    let automaton = automaton(bounds, &finals, vec![edge(0, target, &[], &updates)]);
+    let row = match is_by_parts {
+        true => {
+            let values: Vec<i64> = (0..clocks).map(|_| random.between(1, 5)).collect();
+            region_of(0, bounds, &values, 6)
+        }
+        false => rows::row_in(random, &automaton, 0),
+    };
+    (automaton, row)
 }
 
 /// Three clocks between 0 and 1 in every order, each compared in every way with
