@@ -6,8 +6,8 @@ use mathlib.Core.Bool.{Bool, true, cond, not, _&&_}
 use mathlib.Core.Logic.{_⊎_}
 use mathlib.Core.Option.{Option, none, some}
 use mathlib.Core.List.{List}
-use lib.ListN.{getD, set}
-use lib.Dec.{leb, ltb}
+use lib.ListN.{getD}
+use lib.Dec.{ltb}
 use Rattle.automata.specs.Clocks.{at}
 use Rattle.automata.specs.Row.{Row, IsRow, Below}
 use Rattle.automata.specs.Rows.{openb}
@@ -28,10 +28,14 @@ Agree i xs ys = (j : ℕ) → j < i → at xs j ≡ at ys j
 
 -- what is sought ----------------------------------------------------------------------------------------------------------------
 
--- a row that the moves allow
+-- the moves allow a row
+abbrev pub allowsb : Search → Row → Bool
+allowsb s x = placed-at (s .moves .each) (s .moves .ranks) (s .clocks .count) (x .intervals) (x .ranks)
+
+-- .. and it is one
 pub record Candidate (s : Search) (x : Row) : Type 0 where
   pub is-row : IsRow (bounds-of (s .clocks)) x
-  pub placed : placed-at (s .moves .each) (s .moves .ranks) (s .clocks .count) (x .intervals) (x .ranks) ≡ true
+  pub placed : allowsb s x ≡ true
 
 -- the least of the rows, or none where there is none
 abbrev pub First : (Row → Type 0) → Option Row → Type 0

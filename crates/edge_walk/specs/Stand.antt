@@ -23,9 +23,9 @@ start l = record { part = record { location = l; intervals = 0 ∷ 0 ∷ 0 ∷ 0
 abbrev pub back : ℕ → Stand → Stand
 back n a = record { part = a .part; depth = a .depth - 1; least = at (numbers (row-of n (a .part))) (a .depth - 1) + 1 }
 
--- all of a region's numbers are chosen, and it is met
-abbrev pub past : ℕ → Region → Stand
-past n v = back n (record { part = region-of (row-of n v); depth = 1 + 2 * n; least = 0 })
+-- where a walk goes on that has met a region
+abbrev pub after : ℕ → Region → Stand
+after n v = back n (record { part = region-of (row-of n v); depth = 1 + 2 * n; least = 0 })
 
 -- what is ahead -----------------------------------------------------------------------------------------------------------------
 
@@ -44,7 +44,7 @@ pub record Ahead (s : Search) (a : Stand) (x : Row) : Type 0 where
   pub located : x .location ≡ a .part .location
   pub later : Later (numbers-of s (a .part)) (a .depth) (a .least) (numbers x)
 
--- a stand that a walk comes to: past the location it is over; where all is chosen nothing was tried yet, and the ranks have positions
+-- a stand that a walk comes to: at depth 0 it is past the location; where all is chosen nothing was tried yet, and the ranks have positions
 pub record Standing (s : Search) (a : Stand) : Type 0 where
   pub plain : region-of (row-of (s .clocks .count) (a .part)) ≡ a .part
   pub within : a .depth ≤ 1 + 2 * s .clocks .count
@@ -69,9 +69,9 @@ abbrev pub steps-left : Search → Stand → ℕ
 steps-left s a =
     steps-behind (numbers-of s (a .part)) (1 + 2 * s .clocks .count) (a .depth) + tries (1 + 2 * s .clocks .count - a .depth) (a .least)
 
--- one step: no row is ahead again, none is passed over but those that are done, and fewer steps are left
-pub record Step (s : Search) (Done : Row → Type 0) (a b : Stand) : Type 0 where
+-- a walk goes on from a to b: no row is ahead again, none is missed but those that are done, and fewer steps are left
+pub record Advance (s : Search) (Done : Row → Type 0) (a b : Stand) : Type 0 where
   pub standing : Standing s b
   pub fewer : steps-left s b < steps-left s a
-  pub kept : (x : Row) → Ahead s b x → Ahead s a x
-  pub passed : (x : Row) → Ahead s a x → Done x ⊎ Ahead s b x
+  pub none-again : (x : Row) → Ahead s b x → Ahead s a x
+  pub none-missed : (x : Row) → Ahead s a x → Done x ⊎ Ahead s b x

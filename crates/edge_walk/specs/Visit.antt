@@ -12,8 +12,8 @@ pub record AllPass (Q : Row → Type 0) (p : Row → Bool) (b : Bool) : Type 0 w
   pub passed : b ≡ true → (x : Row) → Q x → p x ≡ true
   pub noticed : ((x : Row) → Q x → p x ≡ true) → b ≡ true
 
--- where a walk stands, b says that no row which is ahead was seen to fail the test p; and if it is done with all that begin with the numbers chosen,
--- that these pass. It is done where all numbers are chosen
+-- what is seen where a walk stands: if it is done with the rows that begin with the numbers chosen, b says that these pass the test p; it is false only
+-- if a row that is ahead fails. Where all numbers are chosen it is done
 pub record Seen (s : Search) (a : Stand) (p : Row → Bool) (b done : Bool) : Type 0 where
   pub passed : b ≡ true → done ≡ true → (x : Row) → Ahead s a x → Begun s a x → p x ≡ true
   pub noticed : ((x : Row) → Ahead s a x → p x ≡ true) → b ≡ true

@@ -5,10 +5,10 @@ ghost use mathlib.Core.Path.{_≡_};
 ghost use mathlib.Core.Bool.{true, false};
 ghost use Prim.Native.Nat.{_+_, _*_, _≤_, _<_};
 ghost use Rattle.edge_walk.specs.Choice.{Ready};
-ghost use Rattle.edge_walk.specs.Stand.{start, back, Begun, Standing, Step};
+ghost use Rattle.edge_walk.specs.Stand.{start, back, Begun, Standing, Advance};
 
-// The first `depth` numbers of the part are chosen. For the next one the choices from `least` on are left. At depth 0, where not even the location is
-// left as it is, the walk is over.
+// The first `depth` numbers of the part are chosen; what stands in the others is left from choices before. For the next one the choices from `least` on
+// are left. At depth 0 the walk is over: its location is no longer left to try.
 pub struct Stand {
     pub part: Region,
     pub depth: usize,
@@ -53,7 +53,7 @@ impl Search {
         requires { ⌜ Standing self at ⌝ }
         requires { ⌜ 0 < at .depth ⌝ }
         requires { ⌜ (done ≡ false → at .depth < 1 + 2 * self .clocks .count) ⌝ }
-        ensures { λ r. ⌜ Step self (λ x. (done ≡ true) × Begun self at x) at r ⌝ }
+        ensures { λ r. ⌜ Advance self (λ x. (done ≡ true) × Begun self at x) at r ⌝ }
     {
         let n = self.clocks.count as usize;
         if done {

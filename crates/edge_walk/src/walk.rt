@@ -12,7 +12,7 @@ use regions::region::Sought;
 use regions::region::missing;
 ghost use mathlib.Core.Path.{_≡_};
 ghost use mathlib.Core.Bool.{_&&_};
-ghost use Prim.Native.Nat.{_+_, _*_, _≤_};
+ghost use Prim.Native.Nat.{_≤_};
 ghost use lib.Dec.{eqb, ltb};
 ghost use Rattle.automata.specs.Row.{IsRow};
 ghost use Rattle.automata.specs.Rows.{isrowb};
@@ -21,19 +21,19 @@ ghost use Rattle.automata.specs.Successors.{edge-rows};
 ghost use Rattle.regions.specs.Values.{Few, bounds-of, row-of, region-of, sought, found-of, edge-of};
 ghost use Rattle.edge_walk.specs.Walk.{first-above};
 ghost use Rattle.edge_walk.specs.Choice.{Ready, Answers};
-ghost use Rattle.edge_walk.specs.Stand.{past, Ahead, Standing};
+ghost use Rattle.edge_walk.specs.Stand.{after, Ahead, Standing};
 ghost use Rattle.edge_walk.specs.Way.{way-rows};
 
 impl Search {
     // The least region that is ahead of a walk which stands there.
-    fn meet(self, from: Stand) -> Sought
+    fn meet(self, start: Stand) -> Sought
         requires { ⌜ Ready self ⌝ }
-        requires { ⌜ Standing self from ⌝ }
-        ensures { λ r. ⌜ Answers (Ahead self from) r ⌝ }
+        requires { ⌜ Standing self start ⌝ }
+        ensures { λ r. ⌜ Answers (Ahead self start) r ⌝ }
     {
         let clocks = self.clocks;
         let all = 1 + 2 * (clocks.count as usize);
-        let mut at = from;
+        let mut at = start;
         while 0 < at.depth {
             let part = at.part;
             let done = at.depth == all;
@@ -65,20 +65,20 @@ fn trimmed(n: usize, region: Region) -> Region
     requires { ⌜ n ≤ 4 ⌝ }
     ensures { λ r. ⌜ r ≡ region-of (row-of n region) ⌝ }
 {
-    let mut trimmed = region;
+    let mut plain = region;
     let mut z = n;
     while z < 4 {
-        trimmed.intervals[z] = 0;
-        trimmed.ranks[z] = 0;
+        plain.intervals[z] = 0;
+        plain.ranks[z] = 0;
         z += 1;
     }
-    trimmed
+    plain
 }
 
-// Where a walk stands that has just met a region.
-fn past(n: usize, region: Region) -> Stand
+// Where a walk goes on that has met a region.
+fn after(n: usize, region: Region) -> Stand
     requires { ⌜ n ≤ 4 ⌝ }
-    ensures { λ r. ⌜ r ≡ past n region ⌝ }
+    ensures { λ r. ⌜ r ≡ after n region ⌝ }
 {
     let met = Stand {
         part: trimmed(n, region),
@@ -126,7 +126,7 @@ impl Way {
         let search = self.search;
         if is_at(floor, location) {
             let n = search.clocks.count as usize;
-            return search.meet(past(n, floor.region));
+            return search.meet(after(n, floor.region));
         }
         search.meet(start_in(location))
     }

@@ -41,8 +41,8 @@ pub fn open_way(clocks: Clocks, from: Region, e: Edge) -> Way
     }
 }
 
-// Whether the edge leaves from the region: it is in the source, and the guards hold there.
-fn leaves(clocks: Clocks, from: Region, e: Edge) -> bool
+// Whether the edge can be taken from the region: it is in the source, and the guards hold there.
+fn is_enabled(clocks: Clocks, from: Region, e: Edge) -> bool
     requires { ⌜ Few clocks ⌝ }
     requires { ⌜ e .«guard_count» ≤ 8 ⌝ }
     requires { ⌜ Bounded (bounds-of clocks) (edge-of (clocks .count) e) ⌝ }
@@ -65,7 +65,7 @@ pub fn way_by(clocks: Clocks, from: Region, e: Edge) -> Way
     ensures rows { λ r. ⌜ way-rows r ≡ edge-rows (bounds-of clocks) (edge-of (clocks .count) e) (row-of (clocks .count) from) ⌝ }
 {
     let way = open_way(clocks, from, e);
-    if !leaves(clocks, from, e) {
+    if !is_enabled(clocks, from, e) {
         let search = way.search;
         return Way {
             leads: false,

@@ -46,17 +46,18 @@ fn arrives_inside(list: &[u8], clocks: Clocks, count: usize, part: Region, hint:
     find(list, clocks, count, part, hint)
 }
 
-// Looks up the part where all is chosen, and all that it can become by its ranks where its intervals have just been chosen.
-fn look(list: &[u8], count: usize, s: Search, at: Stand, hint: usize) -> Sight
+// Looks up the part where all is chosen, and all that it can become by its ranks where its intervals have just been chosen: from the least of these on,
+// since the part's own ranks are left from choices before.
+fn look(list: &[u8], count: usize, s: Search, stand: Stand, hint: usize) -> Sight
     requires { ⌜ Listed (s .clocks) (now list) count ⌝ }
     requires { ⌜ Ascends (listed-rows (s .clocks .count) (now list) count) ⌝ }
     requires { ⌜ Ready s ⌝ }
-    requires { ⌜ Standing s at ⌝ }
-    ensures { λ r. ⌜ Seen s at (has (listed-rows (s .clocks .count) (now (list .entry)) count)) (r .listed) (r .done) ⌝ }
+    requires { ⌜ Standing s stand ⌝ }
+    ensures { λ r. ⌜ Seen s stand (has (listed-rows (s .clocks .count) (now (list .entry)) count)) (r .listed) (r .done) ⌝ }
 {
     let clocks = s.clocks;
-    let part = at.part;
-    if at.depth == 1 + 2 * (clocks.count as usize) {
+    let part = stand.part;
+    if stand.depth == 1 + 2 * (clocks.count as usize) {
         let found = arrives_inside(list, clocks, count, part, hint);
         return Sight {
             listed: found.listed,
@@ -64,14 +65,20 @@ fn look(list: &[u8], count: usize, s: Search, at: Stand, hint: usize) -> Sight
             at: found.at,
         };
     }
-    if at.least != 0 {
+    if stand.least != 0 {
         return Sight {
             listed: true,
             done: false,
             at: hint,
         };
     }
-    let ranked = has_all_ranked(list, clocks, count, part, at.depth, hint);
+    let intervals = part.intervals;
+    let bare = Region {
+        location: part.location,
+        intervals: intervals,
+        ranks: [0; 4],
+    };
+    let ranked = has_all_ranked(list, clocks, count, bare, stand.depth, hint);
     Sight {
         listed: true,
         done: ranked.listed,
@@ -80,17 +87,17 @@ fn look(list: &[u8], count: usize, s: Search, at: Stand, hint: usize) -> Sight
 }
 
 // Whether every region that is ahead of a walk which stands there is in the list.
-fn all_inside(list: &[u8], count: usize, s: Search, from: Stand, hint: usize) -> Found
+fn all_inside(list: &[u8], count: usize, s: Search, start: Stand, hint: usize) -> Found
     requires { ⌜ Listed (s .clocks) (now list) count ⌝ }
     requires { ⌜ Ascends (listed-rows (s .clocks .count) (now list) count) ⌝ }
     requires { ⌜ Ready s ⌝ }
-    requires { ⌜ Standing s from ⌝ }
-    ensures { λ r. ⌜ AllPass (Ahead s from) (has (listed-rows (s .clocks .count) (now (list .entry)) count)) (r .listed) ⌝ }
+    requires { ⌜ Standing s start ⌝ }
+    ensures { λ r. ⌜ AllPass (Ahead s start) (has (listed-rows (s .clocks .count) (now (list .entry)) count)) (r .listed) ⌝ }
 {
-    let mut at = from;
+    let mut stand = start;
     let mut last = hint;
-    while 0 < at.depth {
-        let seen = look(list, count, s, at, last);
+    while 0 < stand.depth {
+        let seen = look(list, count, s, stand, last);
         if !seen.listed {
             return Found {
                 listed: false,
@@ -98,7 +105,7 @@ fn all_inside(list: &[u8], count: usize, s: Search, from: Stand, hint: usize) ->
             };
         }
         last = seen.at;
-        at = s.step(at, seen.done);
+        stand = s.step(stand, seen.done);
     }
     Found {
         listed: true,

@@ -16,14 +16,13 @@ use Rattle.automata.specs.Rows.{select, rows-at}
 use Rattle.regions.specs.Values.{bounds-of, row-of, padded, region-of, sought, found-of}
 use Rattle.regions.specs.Order.{numbers}
 use Rattle.edge_walk.specs.Walk.{above, first-above}
-use Rattle.edge_walk.specs.Choice.{Agree, Candidate, Answers, Ready, numbers-of}
-use Rattle.edge_walk.specs.Stand.{start, past, Later, Ahead, Standing}
-use Rattle.edge_walk.specs.Way.{allowsb, way-rows}
-use Rattle.regions.specs.declared.region.Region.{Region}
+use Rattle.edge_walk.specs.Choice.{Agree, allowsb, Candidate, Answers, Ready}
+use Rattle.edge_walk.specs.Stand.{start, after, Later, Ahead, Standing}
+use Rattle.edge_walk.specs.Way.{way-rows}
 use Rattle.regions.specs.declared.region.Sought.{Sought}
 use Rattle.edge_walk.specs.declared.choice.Search.{Search}
 use Rattle.edge_walk.specs.declared.way.Way.{Way}
-use Rattle.automata.proofs.Laws.Tests.{Says, never, refutes, eqb-law, ltb-law, and-law}
+use Rattle.automata.proofs.Laws.Tests.{never, refutes, eqb-law, ltb-law, and-law}
 use Rattle.automata.proofs.Laws.Members.{select-in, select-out, Sorted, sorted-select}
 use Rattle.automata.proofs.Laws.Rows.{rows-at-in, rows-at-out, rows-at-sorted}
 use Rattle.automata.proofs.Laws.Checks.{belowb-law}
@@ -36,12 +35,12 @@ use Rattle.edge_walk.proofs.Laws.First.{Among, answer-is, no-answer}
 -- numbers past others -------------------------------------------------------------------------------------------------------------------
 
 module _ (ps xs : List ℕ) (alike : length ps ≡ length xs) (j : ℕ) (e : length ps ≡ j + 1) where
-  past-before : Later ps j (at ps j + 1) xs → Before ps xs
-  past-before (inl (a, h)) = before-at ps xs j alike (omega arith) (λ m l. sym (a m l)) (omega arith)
-  past-before (inr (i, l, a, h)) = before-at ps xs i alike (omega arith) (λ m k. sym (a m k)) h
+  later-before : Later ps j (at ps j + 1) xs → Before ps xs
+  later-before (inl (a, h)) = before-at ps xs j alike (omega arith) (λ m l. sym (a m l)) (omega arith)
+  later-before (inr (i, l, a, h)) = before-at ps xs i alike (omega arith) (λ m k. sym (a m k)) h
 
-  before-past : Before ps xs → Later ps j (at ps j + 1) xs
-  before-past b = let (i, l, a, h) = before-where ps xs alike b in go i l h (later-back ps xs (j + 1) j 0 refl (inr (i, omega arith, a, h)))
+  before-later : Before ps xs → Later ps j (at ps j + 1) xs
+  before-later b = let (i, l, a, h) = before-where ps xs alike b in go i l h (later-back ps xs (j + 1) j 0 refl (inr (i, omega arith, a, h)))
     where
       go : (i : ℕ) → i < length ps → at ps i < at xs i → Agree (j + 1) xs ps ⊎ Later ps j (at ps j + 1) xs → Later ps j (at ps j + 1) xs
       go i l h (inl a) = absurd (omega (arith, a i (omega arith)))
@@ -155,8 +154,8 @@ module _ (w : Way) (ready : Ready (w .search)) where
         same : row-of n (region-of f) ≡ f
         same = row-region n f (length-first n (floor .region .intervals) (ready .few .few) (fours .intervals)) (length-first n (floor .region .ranks) (ready .few .few) (fours .ranks))
 
-        pub stands-past : Standing s (past n (floor .region))
-        stands-past = record {
+        pub stands-after : Standing s (after n (floor .region))
+        stands-after = record {
           plain = ap region-of same;
           within = omega arith;
           over = λ z. rw z (omega arith);
@@ -166,9 +165,9 @@ module _ (w : Way) (ready : Ready (w .search)) where
         sized : (x : Row) → IsRow c x → length (s .clocks .bounds) ≡ 4 → length (f .intervals) ≡ length (x .intervals)
         sized x i four = length-first n (floor .region .intervals) (ready .few .few) (fours .intervals) ∙ sym (i .intervals-length ∙ length-first n (s .clocks .bounds) (ready .few .few) four)
 
-        pub from-floor : length (s .clocks .bounds) ≡ 4 → (r : Sought) → Answers (Ahead s (past n (floor .region))) r
+        pub from-floor : length (s .clocks .bounds) ≡ 4 → (r : Sought) → Answers (Ahead s (after n (floor .region))) r
             → r ≡ sought (first-above (found-of n floor) (way-rows w))
-        from-floor four r = answer-is (found-of n floor) (way-rows w) way-sorted (Ahead s (past n (floor .region))) r to back
+        from-floor four r = answer-is (found-of n floor) (way-rows w) way-sorted (Ahead s (after n (floor .region))) r to back
           where
             few : length (numbers f) ≡ 1 + 2 * n
             few = count-numbers n f (length-first n (floor .region .intervals) (ready .few .few) (fours .intervals)) (length-first n (floor .region .ranks) (ready .few .few) (fours .ranks))
@@ -181,17 +180,17 @@ module _ (w : Way) (ready : Ready (w .search)) where
             ps : numbers (row-of n (region-of f)) ≡ numbers f
             ps = ap numbers same
 
-            to : (x : Row) → Ahead s (past n (floor .region)) x → Among (found-of n floor) (way-rows w) x
+            to : (x : Row) → Ahead s (after n (floor .region)) x → Among (found-of n floor) (way-rows w) x
             to x q = (
               on-way x (q .held) (q .located ∙ there .1),
               rw (there .0) (belowb-law f x .1 (before-below f x (sized x (q .held .is-row) four)
-                  (past-before (numbers f) (numbers x) (few ∙ sym (count x (q .held .is-row))) (1 + 2 * n - 1) (omega (arith, few)) (subst (λ (us : List ℕ). Later us (1 + 2 * n - 1) (at us (1 + 2 * n - 1) + 1) (numbers x)) ps (q .later))))),
+                  (later-before (numbers f) (numbers x) (few ∙ sym (count x (q .held .is-row))) (1 + 2 * n - 1) (omega (arith, few)) (subst (λ (us : List ℕ). Later us (1 + 2 * n - 1) (at us (1 + 2 * n - 1) + 1) (numbers x)) ps (q .later))))),
             )
 
-            back : (x : Row) → Among (found-of n floor) (way-rows w) x → Ahead s (past n (floor .region)) x
+            back : (x : Row) → Among (found-of n floor) (way-rows w) x → Ahead s (after n (floor .region)) x
             back x (m, u) = let (q, l) = of-way x m in record {
               held = q;
               located = l ∙ sym (there .1);
-              later = subst (λ (us : List ℕ). Later us (1 + 2 * n - 1) (at us (1 + 2 * n - 1) + 1) (numbers x)) (sym ps) (before-past (numbers f) (numbers x) (few ∙ sym (count x (q .is-row))) (1 + 2 * n - 1) (omega (arith, few))
+              later = subst (λ (us : List ℕ). Later us (1 + 2 * n - 1) (at us (1 + 2 * n - 1) + 1) (numbers x)) (sym ps) (before-later (numbers f) (numbers x) (few ∙ sym (count x (q .is-row))) (1 + 2 * n - 1) (omega (arith, few))
                   (below-before f x (sized x (q .is-row) four) (belowb-law f x .0 (rw (there .0) at u))));
             }

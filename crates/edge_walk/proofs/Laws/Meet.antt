@@ -11,7 +11,7 @@ use Rattle.automata.specs.Row.{Row}
 use Rattle.automata.specs.Rows.{isrowb}
 use Rattle.regions.specs.Values.{bounds-of, row-of, sought}
 use Rattle.edge_walk.specs.Choice.{Answers, Ready}
-use Rattle.edge_walk.specs.Stand.{Begun, Ahead, Standing, Step}
+use Rattle.edge_walk.specs.Stand.{Begun, Ahead, Standing, Advance}
 use Rattle.regions.specs.declared.region.Region.{Region}
 use Rattle.regions.specs.declared.region.Sought.{Sought}
 use Rattle.edge_walk.specs.declared.choice.Search.{Search}
@@ -56,8 +56,8 @@ module _ (s : Search) (ready : Ready s) (four : length (s .clocks .bounds) ≡ 4
     pub not-all : eqb (b .depth) all ≡ false → b .depth < 1 + 2 * n
     not-all h = let d = refutes (eqb (b .depth) all) (eqb-law (b .depth) all) h in omega (arith, u .standing .within, d)
 
-    pub unmet-on : metb ≡ false → (c : Stand) → Step s (λ x. (eqb (b .depth) all ≡ true) × Begun s b x) b c → Unmet s a c
-    unmet-on h c step = record { standing = step .standing; to = λ x q. go x (u .to x q) (step .passed x (u .to x q)); from = λ x q. u .from x (step .kept x q) }
+    pub unmet-on : metb ≡ false → (c : Stand) → Advance s (λ x. (eqb (b .depth) all ≡ true) × Begun s b x) b c → Unmet s a c
+    unmet-on h c step = record { standing = step .standing; to = λ x q. go x (u .to x q) (step .none-missed x (u .to x q)); from = λ x q. u .from x (step .none-again x q) }
       where
         go : (x : Row) → Ahead s b x → ((eqb (b .depth) all ≡ true) × Begun s b x) ⊎ Ahead s c x → Ahead s c x
         go x q (inl (t, w)) =

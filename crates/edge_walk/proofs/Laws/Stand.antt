@@ -13,10 +13,10 @@ use lib.Seq.{getD-set-same, getD-set-other, ext-getD}
 use Rattle.automata.specs.Clocks.{at}
 use Rattle.automata.specs.Row.{Row, Below}
 use Rattle.automata.specs.Rows.{isrowb}
-use Rattle.regions.specs.Values.{bounds-of, row-of, padded, region-of, sought}
+use Rattle.regions.specs.Values.{bounds-of, row-of, padded, region-of}
 use Rattle.regions.specs.Order.{numbers, put}
-use Rattle.edge_walk.specs.Choice.{Agree, Candidate, First, Answers, Ready, numbers-of, stuckb, Skips, Ends}
-use Rattle.edge_walk.specs.Stand.{back, Begun, Later, Ahead, Standing, tries, steps-behind, steps-left, Step}
+use Rattle.edge_walk.specs.Choice.{Agree, Candidate, First, Ready, numbers-of, stuckb, Skips, Ends}
+use Rattle.edge_walk.specs.Stand.{back, Begun, Later, Ahead, Standing, tries, steps-behind, Advance}
 use Rattle.regions.specs.declared.region.Region.{Region}
 use Rattle.edge_walk.specs.declared.choice.Search.{Search}
 use Rattle.edge_walk.specs.declared.stand.Stand.{Stand}
@@ -130,7 +130,7 @@ pub record Four (v : Region) : Type 0 where
 padded-four : (n : ℕ) (xs : List ℕ) → n ≤ 4 → length (padded (take n xs)) ≡ 4
 padded-four n xs h = rw (length-append, length-replicate, length-take) (omega arith)
 
-pub plain-four : (n : ℕ) (v : Region) → n ≤ 4 → region-of (row-of n v) ≡ v → Four v
+plain-four : (n : ℕ) (v : Region) → n ≤ 4 → region-of (row-of n v) ≡ v → Four v
 plain-four n v h e = record {
   intervals = sym (ap (λ (u : Region). length (u .intervals)) e) ∙ padded-four n (v .intervals) h;
   ranks = sym (ap (λ (u : Region). length (u .ranks)) e) ∙ padded-four n (v .ranks) h;
@@ -167,7 +167,7 @@ module _ (s : Search) (ready : Ready s) (four : length (s .clocks .bounds) ≡ 4
 
   module _ (begun : 0 < a .depth) (Done : Row → Type 0) where
     -- a step back leaves what begins with the numbers chosen
-    pub step-back : ((x : Row) → Ahead s a x → Begun s a x → Done x) → (b : Stand) → b ≡ back n a → Step s Done a b
+    pub step-back : ((x : Row) → Ahead s a x → Begun s a x → Done x) → (b : Stand) → b ≡ back n a → Advance s Done a b
     step-back done b e = rw e (record {
       standing = record {
         plain = stand .plain;
@@ -176,8 +176,8 @@ module _ (s : Search) (ready : Ready s) (four : length (s .clocks .bounds) ≡ 4
         arrived = λ z. absurd (omega (arith, stand .within));
       };
       fewer = omega (arith, behind-one ps (1 + 2 * n) (a .depth) (a .depth - 1) (omega arith), tries-some (1 + 2 * n - a .depth) (a .least));
-      kept = λ x q. record { held = q .held; located = q .located; later = later-kept ps (numbers x) (a .depth) (a .depth - 1) (a .least) (omega arith) (q .later) };
-      passed = λ x q. go x q (later-back ps (numbers x) (a .depth) (a .depth - 1) (a .least) (omega arith) (q .later));
+      none-again = λ x q. record { held = q .held; located = q .located; later = later-kept ps (numbers x) (a .depth) (a .depth - 1) (a .least) (omega arith) (q .later) };
+      none-missed = λ x q. go x q (later-back ps (numbers x) (a .depth) (a .depth - 1) (a .least) (omega arith) (q .later));
     })
       where
         go : (x : Row) → Ahead s a x → Begun s a x ⊎ Later ps (a .depth - 1) (at ps (a .depth - 1) + 1) (numbers x) → Done x ⊎ Ahead s (back n a) x
@@ -185,7 +185,7 @@ module _ (s : Search) (ready : Ready s) (four : length (s .clocks .bounds) ≡ 4
         go x q (inr l) = inr (record { held = q .held; located = q .located; later = l })
 
     -- no choice is left
-    pub step-none : (m : ℕ) → Ends s (a .part) (a .depth) m → m < a .least → (b : Stand) → b ≡ back n a → Step s Done a b
+    pub step-none : (m : ℕ) → Ends s (a .part) (a .depth) m → m < a .least → (b : Stand) → b ≡ back n a → Advance s Done a b
     step-none m ends l = step-back (λ x q h. absurd (omega (arith, ends .all x (q .held) h, later-begun ps (numbers x) (a .depth) (a .least) h (q .later))))
 
     -- with the least choice c that is left
@@ -193,7 +193,7 @@ module _ (s : Search) (ready : Ready s) (four : length (s .clocks .bounds) ≡ 4
       skipped : (x : Row) → Ahead s a x → Later ps (a .depth) c (numbers x)
       skipped x q = later-skip ps (numbers x) (a .depth) (a .least) c (λ h l. skips .over x (q .held) h l) (q .later)
 
-      pub step-last : m < c → (b : Stand) → b ≡ back n a → Step s Done a b
+      pub step-last : m < c → (b : Stand) → b ≡ back n a → Advance s Done a b
       step-last l =
           step-back
           (λ x q h. absurd (omega (arith, ends .all x (q .held) h, later-begun ps (numbers x) (a .depth) c h (skipped x q))))
@@ -232,7 +232,7 @@ module _ (s : Search) (ready : Ready s) (four : length (s .clocks .bounds) ≡ 4
         less : (x : Row) → Later ps (a .depth) c (numbers x) → Later ps (a .depth) (a .least) (numbers x)
         less x = later-skip ps (numbers x) (a .depth) c (a .least) (λ h k. omega (arith, skips .on))
 
-        pub step-on : stuckb s further (a .depth + 1) ≡ false → Step s Done a (record { part = further; depth = a .depth + 1; least = 0 })
+        pub step-on : stuckb s further (a .depth + 1) ≡ false → Advance s Done a (record { part = further; depth = a .depth + 1; least = 0 })
         step-on f = record {
           standing = record {
             plain = further-plain;
@@ -241,12 +241,12 @@ module _ (s : Search) (ready : Ready s) (four : length (s .clocks .bounds) ≡ 4
             arrived = λ z. (refl, f);
           };
           fewer = rw changed (omega (arith, left, behind-further));
-          kept = λ x q. record { held = q .held; located = q .located ∙ same-location; later = less x (further-later x (q .later)) };
-          passed = λ x q. inr (record { held = q .held; located = q .located ∙ sym same-location; later = later-further x (skipped x q) });
+          none-again = λ x q. record { held = q .held; located = q .located ∙ same-location; later = less x (further-later x (q .later)) };
+          none-missed = λ x q. inr (record { held = q .held; located = q .located ∙ sym same-location; later = later-further x (skipped x q) });
         }
 
         -- nothing can come of it
-        pub step-past : stuckb s further (a .depth + 1) ≡ true → Step s Done a (record { part = a .part; depth = a .depth; least = c + 1 })
+        pub step-past : stuckb s further (a .depth + 1) ≡ true → Advance s Done a (record { part = a .part; depth = a .depth; least = c + 1 })
         step-past f = record {
           standing = record {
             plain = stand .plain;
@@ -255,8 +255,8 @@ module _ (s : Search) (ready : Ready s) (four : length (s .clocks .bounds) ≡ 4
             arrived = λ z. absurd (omega arith);
           };
           fewer = omega (arith, left);
-          kept = λ x q. record { held = q .held; located = q .located; later = later-skip ps (numbers x) (a .depth) (c + 1) (a .least) (λ h k. omega (arith, skips .on)) (q .later) };
-          passed = λ x q. inr (record { held = q .held; located = q .located; later = later-skip ps (numbers x) (a .depth) c (c + 1) (more x q) (skipped x q) });
+          none-again = λ x q. record { held = q .held; located = q .located; later = later-skip ps (numbers x) (a .depth) (c + 1) (a .least) (λ h k. omega (arith, skips .on)) (q .later) };
+          none-missed = λ x q. inr (record { held = q .held; located = q .located; later = later-skip ps (numbers x) (a .depth) c (c + 1) (more x q) (skipped x q) });
         }
           where
             more : (x : Row) → Ahead s a x → Agree (a .depth) (numbers x) ps → c ≤ at (numbers x) (a .depth) → c + 1 ≤ at (numbers x) (a .depth)

@@ -1,5 +1,5 @@
 -- A visit of all rows that are ahead, step by step: those behind have passed the test. Assumes nothing.
-use Prim.Native.Nat.{ℕ, _+_, _*_}
+use Prim.Native.Nat.{_+_, _*_}
 use mathlib.Core.Path.{_≡_, refl, sym, ap, _∙_}
 use mathlib.Core.Bool.{Bool, true, false, not, _||_}
 use mathlib.Core.Logic.{_⊎_, inl, inr}
@@ -10,7 +10,7 @@ use Rattle.automata.specs.Closed.{Mem}
 use Rattle.automata.specs.Checks.{every}
 use Rattle.regions.specs.Values.{bounds-of, row-of}
 use Rattle.edge_walk.specs.Choice.{Ready}
-use Rattle.edge_walk.specs.Stand.{start, Begun, Ahead, Standing, Step}
+use Rattle.edge_walk.specs.Stand.{start, Begun, Ahead, Standing, Advance}
 use Rattle.edge_walk.specs.Visit.{AllPass, Seen}
 use Rattle.edge_walk.specs.Way.{way-rows}
 use Rattle.edge_walk.specs.declared.choice.Search.{Search}
@@ -42,8 +42,8 @@ module _ (s : Search) (p : Row → Bool) (a b : Stand) (v : Visiting s p a b) wh
   pub visit-fails : (l done : Bool) → Seen s b p l done → l ≡ false → AllPass (Ahead s a) p false
   visit-fails l done seen f = record { passed = λ t. never t; noticed = λ all. sym f ∙ seen .noticed (λ x q. all x (v .from x q)) }
 
-  pub visit-on : (l done : Bool) → Seen s b p l done → l ≡ true → (c : Stand) → Step s (λ x. (done ≡ true) × Begun s b x) b c → Visiting s p a c
-  visit-on l done seen t c step = record { standing = step .standing; to = λ x q. go x (v .to x q); from = λ x q. v .from x (step .kept x q) }
+  pub visit-on : (l done : Bool) → Seen s b p l done → l ≡ true → (c : Stand) → Advance s (λ x. (done ≡ true) × Begun s b x) b c → Visiting s p a c
+  visit-on l done seen t c step = record { standing = step .standing; to = λ x q. go x (v .to x q); from = λ x q. v .from x (step .none-again x q) }
     where
       further : (x : Row) → Ahead s b x → ((done ≡ true) × Begun s b x) ⊎ Ahead s c x → (p x ≡ true) ⊎ Ahead s c x
       further x q (inl (d, h)) = inl (seen .passed t d x q h)
@@ -51,7 +51,7 @@ module _ (s : Search) (p : Row → Bool) (a b : Stand) (v : Visiting s p a b) wh
 
       go : (x : Row) → (p x ≡ true) ⊎ Ahead s b x → (p x ≡ true) ⊎ Ahead s c x
       go x (inl h) = inl h
-      go x (inr q) = further x q (step .passed x q)
+      go x (inr q) = further x q (step .none-missed x q)
 
 -- a look where all is chosen: at the part, if it is a region
 module _ (s : Search) (ready : Ready s) (four : length (s .clocks .bounds) ≡ 4) (a : Stand) (stand : Standing s a) (all : a .depth ≡ 1 + 2 * s .clocks .count) (p : Row → Bool) where

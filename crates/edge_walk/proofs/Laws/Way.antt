@@ -1,45 +1,35 @@
 -- An edge's way from a region: its rows are those that the edge leads to. Assumes nothing.
-use Prim.Native.Nat.{ℕ, zero, suc, _+_, _*_, _-_, _≤_, _<_}
+use Prim.Native.Nat.{ℕ, _+_, _*_, _-_, _≤_, _<_}
 use native.Mathlib.Omega.{arith}
 use mathlib.Core.Path.{_≡_, refl, sym, ap, _∙_}
 use mathlib.Core.Bool.{Bool, true, false, cond, _&&_}
-use mathlib.Core.Logic.{_⊎_, inl, inr}
-use mathlib.Core.Option.{Option, none, some}
-use mathlib.Core.List.{List, [], _∷_, List·Memᴰ·head, List·Memᴰ·tail, List·Memᴰ·not-nil}
-use lib.ListN.{length, getD, take}
-use lib.Dec.{eqb, ltb}
+use mathlib.Core.List.{List, [], _∷_, List·Memᴰ·head, List·Memᴰ·tail}
+use lib.ListN.{length, getD}
+use lib.Dec.{eqb}
 use Rattle.automata.specs.Clocks.{at, allb, greatest}
-use Rattle.automata.specs.Row.{Row, IsRow, Before, Below}
+use Rattle.automata.specs.Row.{Row, IsRow, Below}
 use Rattle.automata.specs.Edge.{Action, keep, constant, clock, Update, idle, Edge, Bounded}
 use Rattle.automata.specs.Closed.{Mem}
 use Rattle.automata.specs.Rows.{select, rows-at}
 use Rattle.automata.specs.Successors.{guardsb, least, placedb, leadsb, edge-rows}
-use Rattle.regions.specs.Values.{Few, bounds-of, row-of, padded, region-of, sought, found-of, edge-of}
-use Rattle.regions.specs.Order.{numbers}
+use Rattle.regions.specs.Values.{Few, bounds-of, row-of, edge-of}
 use Rattle.regions.specs.Move.{move-of, permitsb}
 use Rattle.regions.specs.Placing.{still, placed-at, some-permitted, MovesOf}
-use Rattle.edge_walk.specs.Walk.{above, first-above}
-use Rattle.edge_walk.specs.Choice.{Agree, Candidate, Answers, Ready, numbers-of}
-use Rattle.edge_walk.specs.Stand.{start, past, Later, Ahead, Standing}
-use Rattle.edge_walk.specs.Way.{allowsb, way-rows}
+use Rattle.edge_walk.specs.Choice.{allowsb, Ready}
+use Rattle.edge_walk.specs.Way.{way-rows}
 use Rattle.regions.specs.declared.region.Clocks.{Clocks}
 use Rattle.regions.specs.declared.region.Region.{Region}
-use Rattle.regions.specs.declared.region.Sought.{Sought}
 use Rattle.regions.specs.declared.edge.Edge as edge-code
 use Rattle.regions.specs.declared.placing.Moves.{Moves}
 use Rattle.edge_walk.specs.declared.choice.Search.{Search}
 use Rattle.edge_walk.specs.declared.way.Way.{Way}
-use Rattle.automata.proofs.Laws.Order.{Tri, is-lt, is-eq, is-gt, tri}
-use Rattle.automata.proofs.Laws.Tests.{Says, never, true-or-false, fails, refutes, eqb-law, leb-law, ltb-law, and-law, allb-law}
-use Rattle.automata.proofs.Laws.Members.{select-in, select-out, Sorted, sorted-select}
+use Rattle.automata.proofs.Laws.Tests.{Says, never, fails, refutes, eqb-law, leb-law, and-law, allb-law}
+use Rattle.automata.proofs.Laws.Members.{Sorted, sorted-select}
 use Rattle.automata.proofs.Laws.Ranks.{few-ranks}
-use Rattle.automata.proofs.Laws.Rows.{isrowb-law, rows-at-in, rows-at-out, rows-at-sorted}
+use Rattle.automata.proofs.Laws.Rows.{isrowb-law, rows-at-out, rows-at-sorted}
 use Rattle.automata.proofs.Laws.Leads.{least-is}
-use Rattle.automata.proofs.Laws.Checks.{belowb-law}
 use Rattle.regions.proofs.Laws.Values.{at-take, length-first}
 use Rattle.regions.proofs.Laws.Placing.{placed-permits, placed-same}
-use Rattle.edge_walk.proofs.Laws.Numbers.{below-before, before-below}
-use Rattle.edge_walk.proofs.Laws.First.{Among, answer-is, no-answer}
 
 -- tests that agree on the elements of a list select the same, and one that none passes selects nothing
 select-same : (p q : Row → Bool) (xs : List Row) → ((x : Row) → Mem x xs → p x ≡ q x) → select p xs ≡ select q xs

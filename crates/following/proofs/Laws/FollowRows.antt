@@ -1,5 +1,5 @@
 -- The follower's loops: what has been counted or written after so many steps, and what each way out makes of it. Assumes nothing.
-use Prim.Native.Nat.{ℕ, _+_, _*_, _-_, _≤_, _<_}
+use Prim.Native.Nat.{ℕ, _+_, _-_, _≤_, _<_}
 use Rattle.edge_walk.proofs.Laws.Way.{led-sorted}
 use Rattle.regions.proofs.Laws.Values.{row-region}
 use native.Mathlib.Omega.{arith}
@@ -171,25 +171,25 @@ module _ (k : clocks-code.Clocks) (e : edge-code.Edge) (r : Region) (w : Way) (c
       → next ≡ sought (first-above (found-of (k .count) floor) (rows-led k e r))
   by-way floor next f = f ∙ (λ i. sought (first-above (found-of (c i .count) floor) (p i)))
 
-  of-way : (P : ℕ → List Row → Type 0) → P (w .search .clocks .count) (way-rows w) → P (k .count) (rows-led k e r)
-  of-way P h = subst (λ (rows : List Row). P (k .count) rows) p (subst (λ (j : clocks-code.Clocks). P (j .count) (way-rows w)) c h)
+  from-way : (P : ℕ → List Row → Type 0) → P (w .search .clocks .count) (way-rows w) → P (k .count) (rows-led k e r)
+  from-way P h = subst (λ (rows : List Row). P (k .count) rows) p (subst (λ (j : clocks-code.Clocks). P (j .count) (way-rows w)) c h)
 
-  on-way : (P : ℕ → List Row → Type 0) → P (k .count) (rows-led k e r) → P (w .search .clocks .count) (way-rows w)
-  on-way P h = subst (λ (j : clocks-code.Clocks). P (j .count) (way-rows w)) (sym c) (subst (λ (rows : List Row). P (k .count) rows) (sym p) h)
+  to-way : (P : ℕ → List Row → Type 0) → P (k .count) (rows-led k e r) → P (w .search .clocks .count) (way-rows w)
+  to-way P h = subst (λ (j : clocks-code.Clocks). P (j .count) (way-rows w)) (sym c) (subst (λ (rows : List Row). P (k .count) rows) (sym p) h)
 
   module _ (room : ℕ) (floor : Sought) (left : ℕ) where
     pub counted-of : Counted (w .search .clocks .count) (way-rows w) room floor left → Counted (k .count) (rows-led k e r) room floor left
-    counted-of = of-way (λ n rows. Counted n rows room floor left)
+    counted-of = from-way (λ n rows. Counted n rows room floor left)
 
     pub counted-on : Counted (k .count) (rows-led k e r) room floor left → Counted (w .search .clocks .count) (way-rows w) room floor left
-    counted-on = on-way (λ n rows. Counted n rows room floor left)
+    counted-on = to-way (λ n rows. Counted n rows room floor left)
 
   module _ (o buffer : List ℕ) (floor : Sought) (place count : ℕ) where
     pub copied-of : Copied (w .search .clocks .count) (way-rows w) o buffer floor place count → Copied (k .count) (rows-led k e r) o buffer floor place count
-    copied-of = of-way (λ n rows. Copied n rows o buffer floor place count)
+    copied-of = from-way (λ n rows. Copied n rows o buffer floor place count)
 
     pub copied-on : Copied (k .count) (rows-led k e r) o buffer floor place count → Copied (w .search .clocks .count) (way-rows w) o buffer floor place count
-    copied-on = on-way (λ n rows. Copied n rows o buffer floor place count)
+    copied-on = to-way (λ n rows. Copied n rows o buffer floor place count)
 
 -- what is answered and written ---------------------------------------------------------------------------------------------------
 

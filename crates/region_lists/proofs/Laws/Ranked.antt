@@ -151,7 +151,7 @@ module _ (k : Clocks) (list : List ℕ) (count : ℕ) (L : Listed k list count) 
 -- in a visit -----------------------------------------------------------------------------------------------------------------------------
 
 -- a row whose first numbers are a part's, up to the intervals, stands beside it
-pub agree-beside : (n : ℕ) (x : Row) (part : Region) → length (x .intervals) ≡ n → length (row-of n part .intervals) ≡ n → (i : ℕ) → i ≡ 1 + n
+agree-beside : (n : ℕ) (x : Row) (part : Region) → length (x .intervals) ≡ n → length (row-of n part .intervals) ≡ n → (i : ℕ) → i ≡ 1 + n
     → Agree i (numbers x) (numbers (row-of n part)) → (x .location ≡ part .location) × (x .intervals ≡ row-of n part .intervals)
 agree-beside n x part g long i e a = (a 0 (omega arith), ext-getD 0 (x .intervals) (row-of n part .intervals) (g ∙ sym long) alike)
   where

@@ -1,6 +1,4 @@
-use mathlib.Core.Path.{ap}
 use borrow.Author.Needs.{needs}
-use Rattle.edge_walk.specs.declared.stand.Stand.{Stand}
 use Rattle.edge_walk.proofs.stand.step_back.Statement.{statement}
 use Rattle.edge_walk.proofs.stand.step_back.Tie as tie
 

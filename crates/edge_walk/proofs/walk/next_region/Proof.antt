@@ -1,10 +1,7 @@
-use mathlib.Core.Path.{_≡_, ap, _∙_}
-use mathlib.Core.List.{List}
+use mathlib.Core.Path.{_∙_}
 use borrow.Author.Needs.{needs}
-use Rattle.automata.specs.Row.{Row}
 use Rattle.regions.specs.Values.{sought, found-of}
 use Rattle.edge_walk.specs.Walk.{first-above}
-use Rattle.regions.specs.declared.region.Clocks.{Clocks}
 use Rattle.edge_walk.proofs.walk.next_region.Statement.{statement}
 use Rattle.edge_walk.proofs.walk.next_region.Tie as tie
 

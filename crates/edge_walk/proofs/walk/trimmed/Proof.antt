@@ -6,22 +6,22 @@ use Rattle.edge_walk.proofs.walk.trimmed.Statement.{statement}
 use Rattle.edge_walk.proofs.walk.trimmed.Tie as tie
 
 abbrev Inv-loop : tie.InvT-loop
-Inv-loop n trimmed₀ z₀ trimmed z = Trimmed n z trimmed₀ trimmed
+Inv-loop n plain₀ z₀ plain z = Trimmed n z plain₀ plain
 
 abbrev μ-loop : tie.MeasureT-loop
-μ-loop n trimmed₀ z₀ trimmed z = 4 - z
+μ-loop n plain₀ z₀ plain z = 4 - z
 
 loop-holds : tie.Need-loop-holds Inv-loop μ-loop
 loop-holds c = trim-none _ _ (search needs) (search needs) (search needs)
 
-mul-trimmed : tie.Need-mul-trimmed Inv-loop μ-loop
-mul-trimmed c = search needs
+mul-plain : tie.Need-mul-plain Inv-loop μ-loop
+mul-plain c = search needs
 
-element-write-trimmed : tie.Need-element-write-trimmed Inv-loop μ-loop
-element-write-trimmed c = search needs
+element-write-plain : tie.Need-element-write-plain Inv-loop μ-loop
+element-write-plain c = search needs
 
-element-write-trimmed-2 : tie.Need-element-write-trimmed-2 Inv-loop μ-loop
-element-write-trimmed-2 c = search needs
+element-write-plain-2 : tie.Need-element-write-plain-2 Inv-loop μ-loop
+element-write-plain-2 c = search needs
 
 add-z : tie.Need-add-z Inv-loop μ-loop
 add-z c = search needs
@@ -42,9 +42,9 @@ trimmed-spec =
     Inv-loop
     μ-loop
     loop-holds
-    mul-trimmed
-    element-write-trimmed
-    element-write-trimmed-2
+    mul-plain
+    element-write-plain
+    element-write-plain-2
     add-z
     loop-less
     loop-again

@@ -1,4 +1,3 @@
-use denote.Ref.{now}
 use native.Mathlib.Omega.{arith}
 use mathlib.Core.Path.{_≡_}
 use lib.ListN.{length}
@@ -12,10 +11,10 @@ use Rattle.region_lists.proofs.inside.all_inside.Statement.{statement}
 use Rattle.region_lists.proofs.inside.all_inside.Tie as tie
 
 abbrev Inv-loop : tie.InvT-loop
-Inv-loop list count s hint at₀ last₀ at last = Visiting s (has (listed-rows (s .clocks .count) list count)) at₀ at
+Inv-loop list count s hint stand₀ last₀ stand last = Visiting s (has (listed-rows (s .clocks .count) list count)) stand₀ stand
 
 abbrev μ-loop : tie.MeasureT-loop
-μ-loop list count s hint at₀ last₀ at last = steps-left s at
+μ-loop list count s hint stand₀ last₀ stand last = steps-left s stand
 
 -- the arrays have four numbers each
 bounds : (c : tie.Start Inv-loop μ-loop) → length (c .args .s .clocks .bounds) ≡ 4

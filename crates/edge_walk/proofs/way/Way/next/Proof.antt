@@ -3,7 +3,7 @@ use lib.ListN.{length}
 use borrow.Author.Needs.{needs}
 use borrow.Author.Tests.{not-true, not-false}
 use Rattle.edge_walk.proofs.Laws.Stand.{Four}
-use Rattle.edge_walk.proofs.Laws.Along.{nowhere, starts, all-below, from-start, stands-past, from-floor}
+use Rattle.edge_walk.proofs.Laws.Along.{nowhere, starts, all-below, from-start, stands-after, from-floor}
 use Rattle.edge_walk.proofs.way.Way.next.Statement.{statement}
 use Rattle.edge_walk.proofs.way.Way.next.Tie as tie
 
@@ -39,18 +39,18 @@ is-at-requires c κs = search needs
 cast-n : tie.Need-cast-n
 cast-n c = search needs
 
-past-requires : tie.Need-past-requires
-past-requires c κs = search needs
+after-requires : tie.Need-after-requires
+after-requires c κs = search needs
 
 meet-requires : tie.Need-meet-requires
 meet-requires c κs = let s = c .before .before .before .before .before .before .before .before .before in
     let a = s .args in
-    (s .pre, rw (c .past .ensures) (stands-past (a .self) (s .pre) (not-false _ (c .before .before .before .before .before .before .before .if1 .left)) (a .floor) (floor s) (sym (c .before .before .before .is-at .ensures) ∙ c .before .before .if3 .taken)))
+    (s .pre, rw (c .after .ensures) (stands-after (a .self) (s .pre) (not-false _ (c .before .before .before .before .before .before .before .if1 .left)) (a .floor) (floor s) (sym (c .before .before .before .is-at .ensures) ∙ c .before .before .if3 .taken)))
 
 returns-3 : tie.Need-returns-3
 returns-3 c = let s = c .before .before .before .before .before .before .before .before .before .before in
     let a = s .args in
-    from-floor (a .self) (s .pre) (not-false _ (c .before .before .before .before .before .before .before .before .if1 .left)) (a .floor) (floor s) (sym (c .before .before .before .before .is-at .ensures) ∙ c .before .before .before .if3 .taken) (bounds s) _ (rw (c .before .past .ensures) at (c .meet .ensures))
+    from-floor (a .self) (s .pre) (not-false _ (c .before .before .before .before .before .before .before .before .if1 .left)) (a .floor) (floor s) (sym (c .before .before .before .before .is-at .ensures) ∙ c .before .before .before .if3 .taken) (bounds s) _ (rw (c .before .after .ensures) at (c .meet .ensures))
 
 start-in-requires : tie.Need-start-in-requires
 start-in-requires c κs = search needs
@@ -76,7 +76,7 @@ next-spec =
     returns-2
     is-at-requires
     cast-n
-    past-requires
+    after-requires
     meet-requires
     returns-3
     start-in-requires

@@ -3,8 +3,8 @@ use mathlib.Core.Path.{ap, _∙_}
 use borrow.Author.Needs.{needs}
 use Rattle.regions.specs.declared.region.Region.{Region}
 use Rattle.edge_walk.specs.Stand.{back}
-use Rattle.edge_walk.proofs.walk.past.Statement.{statement}
-use Rattle.edge_walk.proofs.walk.past.Tie as tie
+use Rattle.edge_walk.proofs.walk.after.Statement.{statement}
+use Rattle.edge_walk.proofs.walk.after.Tie as tie
 
 trimmed-requires : tie.Need-trimmed-requires
 trimmed-requires c κs = search needs
@@ -22,5 +22,5 @@ returns : tie.Need-returns
 returns c = let n = c .before .before .args .n in
     c .step-back .ensures ∙ ap (λ (v : Region). back n (record { part = v; depth = 1 + 2 * n; least = 0 })) (c .before .trimmed .ensures)
 
-pub past-spec : {M : Type 1} → statement M
-past-spec = tie.close (tie.spec trimmed-requires mul-t5 add-t6 step-back-requires returns)
+pub after-spec : {M : Type 1} → statement M
+after-spec = tie.close (tie.spec trimmed-requires mul-t5 add-t6 step-back-requires returns)
