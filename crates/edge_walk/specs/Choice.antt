@@ -2,7 +2,7 @@
 -- Assumes nothing.
 use Prim.Native.Nat.{ℕ, _+_, _*_, _-_, _≤_, _<_}
 use mathlib.Core.Path.{_≡_}
-use mathlib.Core.Bool.{Bool, true, cond, not, _&&_}
+use mathlib.Core.Bool.{Bool, true, not, _&&_}
 use mathlib.Core.Logic.{_⊎_}
 use mathlib.Core.Option.{Option, none, some}
 use mathlib.Core.List.{List}
@@ -10,7 +10,6 @@ use lib.ListN.{getD}
 use lib.Dec.{ltb}
 use Rattle.automata.specs.Clocks.{at}
 use Rattle.automata.specs.Row.{Row, IsRow, Below}
-use Rattle.automata.specs.Rows.{openb}
 use Rattle.automata.specs.Rankings.{usedb, rank-room}
 use Rattle.regions.specs.Values.{Few, bounds-of, row-of, sought}
 use Rattle.regions.specs.Order.{numbers}
@@ -64,15 +63,11 @@ numbers-of s v = numbers (row-of (s .clocks .count) v)
 abbrev pub room : Clocks → Region → ℕ → ℕ
 room k part z = rank-room (bounds-of k) (row-of (k .count) part .intervals) (part .ranks) z (k .count)
 
--- the greatest rank of clock z: in an open interval, the last there is room for
-abbrev pub rank-limit : Clocks → Region → ℕ → ℕ
-rank-limit k part z = cond (openb (at (k .bounds) z) (at (part .intervals) z)) (room k part z) 0
-
--- every rank from k to before m is one that a clock before z has, and so is the last there is room for
-pub record PassesOver (c : Clocks) (part : Region) (z k m : ℕ) : Type 0 where
+-- every rank from k to before m is one that a clock before z has, and so is the last
+pub record PassesOver (ranks : List ℕ) (z last k m : ℕ) : Type 0 where
   pub on : k ≤ m
-  pub full : k < m → usedb (part .ranks) z (room c part z) ≡ true
-  pub over : (a : ℕ) → k ≤ a → a < m → usedb (part .ranks) z a ≡ true
+  pub full : k < m → usedb ranks z last ≡ true
+  pub over : (a : ℕ) → k ≤ a → a < m → usedb ranks z a ≡ true
 
 -- the ranks chosen so far have no positions
 unfoldable pub stuckb : Search → Region → ℕ → Bool

@@ -8,13 +8,18 @@ use regions::room::is_used;
 use regions::room::next_unused;
 ghost use mathlib.Core.Path.{_≡_};
 ghost use Prim.Native.Nat.{_+_, _*_, _≤_, _<_, max};
-ghost use Rattle.regions.specs.Values.{Few};
-ghost use Rattle.edge_walk.specs.Choice.{rank-limit, stuckb, PassesOver, Ready, Skips, Ends};
+ghost use Rattle.edge_walk.specs.Choice.{stuckb, PassesOver, Ready, Skips, Ends};
 
 // What the walk goes by: the clocks, and their moves.
 pub struct Search {
     pub clocks: Clocks,
     pub moves: Moves,
+}
+
+// The choices that are left for a number: none where the least is above the last.
+pub struct Choices {
+    pub least: u16,
+    pub last: u16,
 }
 
 // The least rank from this one on in an open interval.
@@ -27,15 +32,12 @@ fn least_rank(from: u16) -> u16
     from
 }
 
-// The least rank from this one on that clock z of the part may have in an open interval. Where a clock before it has the last rank there is room
-// for, every other clock has to have one that is missing, so those that are not are left out.
-fn next_rank(clocks: Clocks, part: Region, z: usize, from: u16) -> u16
-    requires { ⌜ Few clocks ⌝ }
-    requires { ⌜ z < clocks .count ⌝ }
-    ensures { λ r. ⌜ PassesOver clocks part z from r ⌝ }
+// The least rank from this one on that clock z may have in an open interval, with room for ranks up to the last. Where a clock before it has that one,
+// every other clock has to have one that is missing, so those that are not are left out.
+fn next_rank(ranks: [u8; 4], z: usize, last: u8, from: u16) -> u16
+    requires { ⌜ z ≤ 4 ⌝ }
+    ensures { λ r. ⌜ PassesOver ranks z last from r ⌝ }
 {
-    let ranks = part.ranks;
-    let last = part.rank_room(clocks, z);
     if !is_used(ranks, z, last) {
         return from;
     }
@@ -43,54 +45,37 @@ fn next_rank(clocks: Clocks, part: Region, z: usize, from: u16) -> u16
 }
 
 impl Search {
-    // The greatest rank that clock z of the part may have, once all its intervals and the ranks before are chosen: 0 where its interval is not
-    // open, else the last there is room for, since no rank is missing.
-    fn last_rank(self, part: Region, z: usize) -> u8
-        requires { ⌜ Ready self ⌝ }
-        requires { ⌜ z < self .clocks .count ⌝ }
-        ensures { λ r. ⌜ r ≡ rank-limit (self .clocks) part z ⌝ }
-    {
-        let clocks = self.clocks;
-        if is_open(clocks.bounds[z], part.intervals[z]) {
-            return part.rank_room(clocks, z);
-        }
-        0
-    }
-
-    // The greatest choice for number i of the part.
-    pub fn last_choice(self, part: Region, i: usize) -> u16
+    // The choices from this one on for number i of the part: intervals that the clock's move does not permit are left out, and ranks that leave one
+    // missing. In an interval that is not open the rank is 0, in any other at most the last there is room for.
+    pub fn choices(self, part: Region, i: usize, from: u16) -> Choices
         requires { ⌜ Ready self ⌝ }
         requires { ⌜ (0 < i) × (i < 1 + 2 * self .clocks .count) ⌝ }
-        ensures { λ r. ⌜ Ends self part i r ⌝ }
+        ensures least { λ r. ⌜ Skips self part i from (r .least) ⌝ }
+        ensures last { λ r. ⌜ Ends self part i (r .last) ⌝ }
     {
         let n = self.clocks.count as usize;
         if i <= n {
             let moves = self.moves;
             let asked = moves.each[i - 1];
-            return asked.top;
-        }
-        self.last_rank(part, i - 1 - n) as u16
-    }
-
-    // The least choice from this one on for number i of the part, or more than the greatest: intervals that the clock's move does not permit are
-    // left out, and ranks that leave one missing.
-    pub fn next_choice(self, part: Region, i: usize, from: u16) -> u16
-        requires { ⌜ Ready self ⌝ }
-        requires { ⌜ (0 < i) × (i < 1 + 2 * self .clocks .count) ⌝ }
-        ensures { λ r. ⌜ Skips self part i from r ⌝ }
-    {
-        let n = self.clocks.count as usize;
-        if i <= n {
-            let moves = self.moves;
-            let asked = moves.each[i - 1];
-            return asked.next_permitted(from);
+            return Choices {
+                least: asked.next_permitted(from),
+                last: asked.top,
+            };
         }
         let clocks = self.clocks;
         let z = i - 1 - n;
         if !is_open(clocks.bounds[z], part.intervals[z]) {
-            return from;
+            return Choices {
+                least: from,
+                last: 0,
+            };
         }
-        next_rank(clocks, part, z, least_rank(from))
+        let ranks = part.ranks;
+        let last = part.rank_room(clocks, z);
+        Choices {
+            least: next_rank(ranks, z, last, least_rank(from)),
+            last: last as u16,
+        }
     }
 
     // Whether the ranks chosen so far have no positions, so that nothing can come of the part: seen before the next rank is chosen.

@@ -61,12 +61,13 @@ impl Search {
         }
         let part = at.part;
         let depth = at.depth;
-        let last = self.last_choice(part, depth);
-        if (last as u32) < at.least {
+        // no choice is above 32,767, though a number of the region that the walk went on from may be
+        if 32767 < at.least {
             return step_back(n, at);
         }
-        let choice = self.next_choice(part, depth, at.least as u16);
-        if last < choice {
+        let choices = self.choices(part, depth, at.least as u16);
+        let choice = choices.least;
+        if choices.last < choice {
             return step_back(n, at);
         }
         let further = part.with_number(n, depth, choice);

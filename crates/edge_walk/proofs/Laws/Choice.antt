@@ -3,7 +3,7 @@ use Prim.Native.Nat.{ℕ, suc, _+_, _*_, _-_, _≤_, _<_, max}
 use native.Mathlib.Decide.{decLe}
 use native.Mathlib.Omega.{arith}
 use mathlib.Core.Path.{_≡_, refl, sym, ap, _∙_}
-use mathlib.Core.Bool.{Bool, true, false, cond, not}
+use mathlib.Core.Bool.{Bool, true, false, not}
 use mathlib.Core.Logic.{_⊎_, inl, inr}
 use mathlib.Core.List.{List}
 use lib.ListN.{length, getD, take}
@@ -19,7 +19,7 @@ use Rattle.regions.specs.Values.{bounds-of, row-of}
 use Rattle.regions.specs.Order.{numbers}
 use Rattle.regions.specs.Move.{permitsb}
 use Rattle.regions.specs.Placing.{still, rank-fits-at, greedy-at, placed-at}
-use Rattle.edge_walk.specs.Choice.{Agree, Candidate, Ready, numbers-of, room, rank-limit, stuckb, PassesOver, Skips, Ends}
+use Rattle.edge_walk.specs.Choice.{Agree, Candidate, Ready, numbers-of, room, stuckb, PassesOver, Skips, Ends}
 use Rattle.regions.specs.declared.clock_move.Move.{Move}
 use Rattle.regions.specs.declared.region.Region.{Region}
 use Rattle.edge_walk.specs.declared.choice.Search.{Search}
@@ -146,22 +146,24 @@ module _ (s : Search) (ready : Ready s) (four : length (s .clocks .bounds) ≡ 4
         ext-getD 0 (x .intervals) (take n (part .intervals)) (its-length x q ∙ sym part-length)
         (λ w l. let k : w < n = omega (arith, its-length x q) in same-interval x q a w k (omega arith) ∙ sym (at-take n (part .intervals) w k))
 
-    limited : (x : Row) → Candidate s x → Agree i (numbers x) (numbers-of s part) → (b : Bool) → inside ≡ b → at (x .ranks) z ≤ cond b most 0
-    limited x q a true e =
-        rw (same-intervals x q a, clocks-count) at (rank-room-le c x (q .is-row) (part .ranks) z (λ w l. same-rank x q a w (omega arith) (omega arith)) z)
-    limited x q a false e =
-        let shut : at (x .ranks) z ≡ 0 = q .is-row .rank-shut z (omega (arith, clocks-count)) (refutes inside (inside-law x q a) e) in
-        omega arith
-
-    pub rank-ends : (k : ℕ) → k ≡ rank-limit (s .clocks) part z → Ends s part i k
-    rank-ends k e = record { low = omega (arith, small); low-rank = λ l. small; all = λ x q a. rw e (rw (at-rank n x (its-length x q) i h) (limited x q a inside refl)) }
+    -- not open: rank 0
+    pub rank-shut : inside ≡ false → Ends s part i 0
+    rank-shut e = record { low = omega arith; low-rank = λ l. omega arith; all = all }
       where
-        few : (b : Bool) → cond b most 0 ≤ 4
-        few true = omega (arith, rank-room-few c (take n (part .intervals)) (part .ranks) z n, ready .few .few)
-        few false = omega arith
+        all : (x : Row) → Candidate s x → Agree i (numbers x) (numbers-of s part) → at (numbers x) i ≤ 0
+        all x q a =
+            let shut : at (x .ranks) z ≡ 0 = q .is-row .rank-shut z (omega (arith, clocks-count)) (refutes inside (inside-law x q a) e) in
+            omega (arith, at-rank n x (its-length x q) i h)
 
+    pub rank-ends : (k : ℕ) → inside ≡ true → k ≡ most → Ends s part i k
+    rank-ends k e f = record { low = omega (arith, small); low-rank = λ l. small; all = λ x q a. omega (arith, at-rank n x (its-length x q) i h, limited x q a) }
+      where
         small : k ≤ 4
-        small = rw e (few inside)
+        small = omega (arith, rank-room-few c (take n (part .intervals)) (part .ranks) z n, ready .few .few)
+
+        limited : (x : Row) → Candidate s x → Agree i (numbers x) (numbers-of s part) → at (x .ranks) z ≤ most
+        limited x q a =
+            rw (same-intervals x q a, clocks-count) at (rank-room-le c x (q .is-row) (part .ranks) z (λ w l. same-rank x q a w (omega arith) (omega arith)) z)
 
     -- no rank that a clock before has, where one has the last there is room for
     fresh : (x : Row) → Candidate s x → Agree i (numbers x) (numbers-of s part) → inside ≡ true → usedb (part .ranks) z (room (s .clocks) part z) ≡ true
@@ -171,7 +173,7 @@ module _ (s : Search) (ready : Ready s) (four : length (s .clocks .bounds) ≡ 4
         (openb-law (at c z) (at (x .intervals) z) .1 (inside-law x q a .0 e)) (omega (arith, clocks-count))
         (rw (same-intervals x q a, clocks-count) f)
 
-    pub rank-skips : (j k m : ℕ) → inside ≡ true → k ≡ max j 1 → PassesOver (s .clocks) part z k m → Skips s part i j m
+    pub rank-skips : (j k m : ℕ) → inside ≡ true → k ≡ max j 1 → PassesOver (part .ranks) z most k m → Skips s part i j m
     rank-skips j k m e f p = record { on = omega (arith, p .on); over = over }
       where
         over : (x : Row) → Candidate s x → Agree i (numbers x) (numbers-of s part) → j ≤ at (numbers x) i → m ≤ at (numbers x) i
@@ -183,6 +185,18 @@ module _ (s : Search) (ready : Ready s) (four : length (s .clocks .bounds) ≡ 4
             go : Dec (m ≤ at (x .ranks) z) → m ≤ at (x .ranks) z
             go (yes d) = d
             go (no d) = never (sym (fresh x q a e (p .full (omega (arith, from)))) ∙ p .over (at (x .ranks) z) from (omega arith))
+
+  -- either
+  pub low-number : 0 < i → i < 1 + 2 * n → (x : Row) → Candidate s x → Agree i (numbers x) (numbers-of s part) → at (numbers x) i ≤ 32767
+  low-number begun within x q a = go (decLe i n)
+    where
+      go : Dec (i ≤ n) → at (numbers x) i ≤ 32767
+      go (yes h) = omega (arith, in-range begun h x q, top-low begun h)
+      go (no h) = by (true-or-false (inside (omega arith) within))
+        where
+          by : (inside (omega arith) within ≡ true) ⊎ (inside (omega arith) within ≡ false) → at (numbers x) i ≤ 32767
+          by (inl t) = let e = rank-ends (omega arith) within _ t refl in omega (arith, e .all x q a, e .low)
+          by (inr f) = omega (arith, rank-shut (omega arith) within f .all x q a)
 
 -- the code's tests
 module _ (s : Search) (part : Region) (i : ℕ) where

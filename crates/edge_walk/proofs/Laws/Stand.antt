@@ -25,7 +25,7 @@ use Rattle.automata.proofs.Laws.Rows.{isrowb-law}
 use Rattle.regions.proofs.Laws.Values.{at-take, length-first}
 use Rattle.regions.proofs.Laws.Placing.{placed-less}
 use Rattle.edge_walk.proofs.Laws.Numbers.{before-at, before-below, numbers-equal, count-numbers, put-numbers, put-plain}
-use Rattle.edge_walk.proofs.Laws.Choice.{stuck-none, not-stuck}
+use Rattle.edge_walk.proofs.Laws.Choice.{stuck-none, not-stuck, low-number}
 
 -- numbers that agree with others, one of which is put ------------------------------------------------------------------------------------
 
@@ -185,8 +185,14 @@ module _ (s : Search) (ready : Ready s) (four : length (s .clocks .bounds) ≡ 4
         go x q (inr l) = inr (record { held = q .held; located = q .located; later = l })
 
     -- no choice is left
-    pub step-none : (m : ℕ) → Ends s (a .part) (a .depth) m → m < a .least → (b : Stand) → b ≡ back n a → Advance s Done a b
-    step-none m ends l = step-back (λ x q h. absurd (omega (arith, ends .all x (q .held) h, later-begun ps (numbers x) (a .depth) (a .least) h (q .later))))
+    pub step-none : a .depth < 1 + 2 * n → 32767 < a .least → (b : Stand) → b ≡ back n a → Advance s Done a b
+    step-none within l =
+        step-back
+        (λ x q h. absurd (omega (
+          arith,
+          low-number s ready four (a .part) (fours .intervals) (a .depth) begun within x (q .held) h,
+          later-begun ps (numbers x) (a .depth) (a .least) h (q .later),
+        )))
 
     -- with the least choice c that is left
     module _ (within : a .depth < 1 + 2 * n) (m c : ℕ) (ends : Ends s (a .part) (a .depth) m) (skips : Skips s (a .part) (a .depth) (a .least) c) where

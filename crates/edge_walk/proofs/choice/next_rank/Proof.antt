@@ -1,13 +1,9 @@
 use native.Mathlib.Omega.{arith}
-use mathlib.Core.Path.{sym, ap, _∙_}
+use mathlib.Core.Path.{sym, _∙_}
 use borrow.Author.Tests.{not-false}
-use Rattle.automata.specs.Rankings.{usedb}
 use borrow.Author.Needs.{needs}
 use Rattle.edge_walk.proofs.choice.next_rank.Statement.{statement}
 use Rattle.edge_walk.proofs.choice.next_rank.Tie as tie
-
-rank-room-requires : tie.Need-rank-room-requires
-rank-room-requires c κs = search needs
 
 is-used-requires : tie.Need-is-used-requires
 is-used-requires c κs = search needs
@@ -19,12 +15,11 @@ next-unused-requires : tie.Need-next-unused-requires
 next-unused-requires c κs = search needs
 
 returns-2 : tie.Need-returns-2
-returns-2 c = let a = c .before .before .before .before .before .args in record {
+returns-2 c = record {
   on = c .next-unused .ensures .0;
-  full = λ l. ap (usedb (a .part .ranks) (a .z)) (sym (c .before .before .before .rank-room .ensures)) ∙ sym (c .before .before .is-used .ensures) ∙ not-false _ (c .before .if1 .left);
+  full = λ l. sym (c .before .before .is-used .ensures) ∙ not-false _ (c .before .if1 .left);
   over = c .next-unused .ensures .1;
 }
 
 pub next-rank-spec : {M : Type 1} → statement M
-next-rank-spec =
-    tie.close (tie.spec rank-room-requires is-used-requires returns next-unused-requires returns-2)
+next-rank-spec = tie.close (tie.spec is-used-requires returns next-unused-requires returns-2)
