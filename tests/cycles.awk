@@ -10,6 +10,7 @@ function defines(of) {
 
 # one more call, or jump, of the one function to the other
 function calls(of, to) {
+  defines(of)
   if ((of, to) in met) return
   met[of, to] = 1
   callee[of, ++callees[of]] = to

@@ -19,7 +19,7 @@ cycles() { cat "$@" | tr '(' '\n' | awk -f "$here/tests/cycles.awk" -f "$here/te
 
 # c_cycles FILE: the same of a file in C
 c_cycles() {
-  gcc -O0 -fcallgraph-info -Ihost -c -o "$work/c.o" "$1" 2>&1 || return 1
+  gcc -O0 -fkeep-inline-functions -fkeep-static-functions -fcallgraph-info -Ihost -c -o "$work/c.o" "$1" 2>&1 || return 1
   awk -f tests/cycles.awk -f tests/recursion_c.awk "$work/c.ci"
 }
 
@@ -206,8 +206,10 @@ settled() {
 }
 said=$(cycles "$work"/crates/*.mir)
 settled 'the crates' $? "$said"
-said=$(c_cycles host/check.c)
-settled host/check.c $? "$said"
+for file in host/*.c; do
+  said=$(c_cycles "$file")
+  settled "$file" $? "$said"
+done
 
 echo "$passed passed, $failed failed"
 [ "$failed" -eq 0 ]

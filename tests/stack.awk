@@ -13,6 +13,7 @@ BEGIN {
 
 # one more function, whose return address is on the stack
 function begins(of) {
+  if (of in frame) wrong("two functions have the name " of)
   defines(of)
   frame[of] = 8
 }
@@ -82,7 +83,7 @@ function taken(operation, digits) {
 
 word[1] ~ /^push/ { frame[name] += 8; next }
 word[1] ~ /^(pop|ret|cmp|test)/ { next }
-word[1] ~ /^call/ && text ~ /\*/ { wrong("a call through a pointer in " name); next }
+text ~ /^((notrack|bnd)[ \t]+)?(call|jmp)[a-z]*[ \t]+\*/ { wrong("a call or a jump through a pointer in " name); next }
 word[1] ~ /^(call|j)/ && text !~ /\*/ { is_call = (word[1] ~ /^call/); pending = text; next }
 word[1] ~ /^(sub|add)q?$/ && word[2] ~ /^\$0x[0-9a-f]+,%rsp$/ {
   digits = substr(word[2], 4)

@@ -31,7 +31,7 @@ Agree i xs ys = (j : ℕ) → j < i → at xs j ≡ at ys j
 abbrev pub allowsb : Search → Row → Bool
 allowsb s x = placed-at (s .moves .each) (s .moves .ranks) (s .clocks .count) (x .intervals) (x .ranks)
 
--- .. and it is one
+-- .. and it is a row of these clocks
 pub record Candidate (s : Search) (x : Row) : Type 0 where
   pub is-row : IsRow (bounds-of (s .clocks)) x
   pub placed : allowsb s x ≡ true

@@ -44,7 +44,8 @@ pub record Ahead (s : Search) (a : Stand) (x : Row) : Type 0 where
   pub located : x .location ≡ a .part .location
   pub later : Later (numbers-of s (a .part)) (a .depth) (a .least) (numbers x)
 
--- a stand that a walk comes to: at depth 0 it is past the location; where all is chosen nothing was tried yet, and the ranks have positions
+-- a stand that a walk comes to: zeros behind the clocks' numbers, and no more numbers chosen than there are; at depth 0 it is past the location; where all
+-- is chosen nothing was tried yet, and the ranks have positions
 pub record Standing (s : Search) (a : Stand) : Type 0 where
   pub plain : region-of (row-of (s .clocks .count) (a .part)) ≡ a .part
   pub within : a .depth ≤ 1 + 2 * s .clocks .count
@@ -53,8 +54,8 @@ pub record Standing (s : Search) (a : Stand) : Type 0 where
 
 -- steps -------------------------------------------------------------------------------------------------------------------------
 
--- at most how many steps are made for a number with m more after it, if its choices from k on are left: choices are below 32,768, and each takes a
--- step on, those for the numbers after it, the last of which is back, or a step past it
+-- at most how many steps are made where m numbers are left to choose, if for the first of them the choices from k on are left: choices are below 32,768,
+-- and each takes a step on and those for the numbers after it, the last of which is back, or a step past it; then comes the step back
 unfoldable pub tries : ℕ → ℕ → ℕ
 tries zero k = 1
 tries (suc m) k = 1 + (32768 - k) * (1 + tries m 0)
@@ -69,9 +70,10 @@ abbrev pub steps-left : Search → Stand → ℕ
 steps-left s a =
     steps-behind (numbers-of s (a .part)) (1 + 2 * s .clocks .count) (a .depth) + tries (1 + 2 * s .clocks .count - a .depth) (a .least)
 
--- a walk goes on from a to b: no row is ahead again, none is missed but those that are done, and fewer steps are left
+-- a walk goes on from a to b: no row is ahead that was not, nor one that is done; none is missed but those that are done; and fewer steps are left
 pub record Advance (s : Search) (Done : Row → Type 0) (a b : Stand) : Type 0 where
   pub standing : Standing s b
   pub fewer : steps-left s b < steps-left s a
   pub none-again : (x : Row) → Ahead s b x → Ahead s a x
+  pub left-behind : (x : Row) → Done x → Ahead s b x → ⊥
   pub none-missed : (x : Row) → Ahead s a x → Done x ⊎ Ahead s b x

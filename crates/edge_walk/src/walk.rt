@@ -111,7 +111,8 @@ fn is_at(floor: Sought, location: u8) -> bool
 }
 
 impl Way {
-    // The least region on the way above the floor, or the first where there is no floor; or none. A floor that was met before is where the walk goes on.
+    // The least region on the way above the floor, or the first where there is no floor; or none. Where the floor is in the target, the walk goes on right
+    // past it, whether it was met or not.
     pub fn next(self, floor: Sought) -> Sought
         requires { ⌜ Ready (self .search) ⌝ }
         ensures { λ r. ⌜ r ≡ sought (first-above (found-of (self .search .clocks .count) floor) (way-rows self)) ⌝ }
@@ -132,7 +133,8 @@ impl Way {
     }
 }
 
-// The least region above the floor, or the first where there is no floor, of those that the edge leads to; or none.
+// The least region above the floor, or the first where there is no floor, of those that the edge leads to; or none. For a caller that wants one region:
+// following works the way out once, and then asks it for each.
 pub fn next_region(clocks: Clocks, from: Region, e: Edge, floor: Sought) -> Sought
     requires { ⌜ Few clocks ⌝ }
     requires { ⌜ e .«guard_count» ≤ 8 ⌝ }

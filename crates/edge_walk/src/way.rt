@@ -54,7 +54,7 @@ fn is_enabled(clocks: Clocks, from: Region, e: Edge) -> bool
     from.guards_hold(clocks, e)
 }
 
-// The way from any region.
+// The way from any region. Its search is worked out even where it leads nowhere, so that it is always ready.
 pub fn way_by(clocks: Clocks, from: Region, e: Edge) -> Way
     requires { ⌜ Few clocks ⌝ }
     requires { ⌜ e .«guard_count» ≤ 8 ⌝ }

@@ -403,8 +403,9 @@ fn time_run(repetitions: u32) {
     print("run of 2,048 steps", &times);
 }
 
-/// Following the only edge of a table from one row into one buffer, on both sides. Both sides count the next rows and then go over them again to write them; the buffers
-/// are there before, and in the end every byte of them has to be the same.
+/// Following the only edge of a table from one row into one buffer, on both sides. Both sides count
+/// the next rows and then go over them again to write them; the buffers are there before, and in the
+/// end every byte of them has to be the same.
 fn time_following(name: &str, effort: &Effort, automaton: &Automaton, row: Region, room: usize) {
     let (mut table, mut record) = (encode_table(automaton), row.record(automaton.clocks()));
     let (same_table, same_record) = (table.clone(), record.clone());
@@ -522,6 +523,16 @@ fn main() {
         .first()
         .and_then(|text| text.parse().ok())
         .unwrap_or(3);
+    if let Some(only) = given.get(1) {
+        if PARTS.iter().all(|(name, _)| name != only) {
+            let names: Vec<&str> = PARTS.iter().map(|(name, _)| *name).collect();
+            eprintln!(
+                "benchmark: no part '{only}'; there are {}",
+                names.join(", ")
+            );
+            std::process::exit(2);
+        }
+    }
     println!("best of {repetitions}, seconds of processor time; ratio: checker to rules\n");
     let head = ["", "checker", "rules", "ratio"];
     println!(

@@ -87,6 +87,11 @@ module _ (ps xs : List ℕ) where
   later-kept i j k e (inl (a, h)) = inr (j, omega arith, a, omega arith)
   later-kept i j k e (inr (m, l, a, h)) = inr (m, omega arith, a, h)
 
+  -- what begins with the numbers chosen is not ahead one number back
+  begun-behind : (i j : ℕ) → i ≡ j + 1 → Agree i xs ps → Later ps j (at ps j + 1) xs → ⊥
+  begun-behind i j e a (inl (_, h)) = omega (arith, a j (omega arith))
+  begun-behind i j e a (inr (m, l, _, h)) = omega (arith, a m (omega arith))
+
   -- other choices left
   later-skip : (i k m : ℕ) → (Agree i xs ps → k ≤ at xs i → m ≤ at xs i) → Later ps i k xs → Later ps i m xs
   later-skip i k m f (inl (a, h)) = inl (a, f a h)
@@ -166,9 +171,9 @@ module _ (s : Search) (ready : Ready s) (four : length (s .clocks .bounds) ≡ 4
       go (inr (j, l, _, _)) = omega arith
 
   module _ (begun : 0 < a .depth) (Done : Row → Type 0) where
-    -- a step back leaves what begins with the numbers chosen
-    pub step-back : ((x : Row) → Ahead s a x → Begun s a x → Done x) → (b : Stand) → b ≡ back n a → Advance s Done a b
-    step-back done b e = rw e (record {
+    -- a step back leaves what begins with the numbers chosen behind
+    pub step-back : ((x : Row) → Ahead s a x → Begun s a x → Done x) → ((x : Row) → Done x → Begun s a x) → (b : Stand) → b ≡ back n a → Advance s Done a b
+    step-back done alone b e = rw e (record {
       standing = record {
         plain = stand .plain;
         within = omega (arith, stand .within);
@@ -177,6 +182,7 @@ module _ (s : Search) (ready : Ready s) (four : length (s .clocks .bounds) ≡ 4
       };
       fewer = omega (arith, behind-one ps (1 + 2 * n) (a .depth) (a .depth - 1) (omega arith), tries-some (1 + 2 * n - a .depth) (a .least));
       none-again = λ x q. record { held = q .held; located = q .located; later = later-kept ps (numbers x) (a .depth) (a .depth - 1) (a .least) (omega arith) (q .later) };
+      left-behind = λ x d q. begun-behind ps (numbers x) (a .depth) (a .depth - 1) (omega arith) (alone x d) (q .later);
       none-missed = λ x q. go x q (later-back ps (numbers x) (a .depth) (a .depth - 1) (a .least) (omega arith) (q .later));
     })
       where
@@ -184,25 +190,26 @@ module _ (s : Search) (ready : Ready s) (four : length (s .clocks .bounds) ≡ 4
         go x q (inl h) = inl (done x q h)
         go x q (inr l) = inr (record { held = q .held; located = q .located; later = l })
 
-    -- no choice is left
-    pub step-none : a .depth < 1 + 2 * n → 32767 < a .least → (b : Stand) → b ≡ back n a → Advance s Done a b
-    step-none within l =
+    -- nothing is done, and no choice is left
+    pub step-none : ((x : Row) → Done x → ⊥) → a .depth < 1 + 2 * n → 32767 < a .least → (b : Stand) → b ≡ back n a → Advance s Done a b
+    step-none none within l =
         step-back
         (λ x q h. absurd (omega (
           arith,
           low-number s ready four (a .part) (fours .intervals) (a .depth) begun within x (q .held) h,
           later-begun ps (numbers x) (a .depth) (a .least) h (q .later),
-        )))
+        ))) (λ x d. absurd (none x d))
 
-    -- with the least choice c that is left
-    module _ (within : a .depth < 1 + 2 * n) (m c : ℕ) (ends : Ends s (a .part) (a .depth) m) (skips : Skips s (a .part) (a .depth) (a .least) c) where
+    -- .. with the least choice c that is left
+    module _ (none : (x : Row) → Done x → ⊥) (within : a .depth < 1 + 2 * n) (m c : ℕ) (ends : Ends s (a .part) (a .depth) m)
+        (skips : Skips s (a .part) (a .depth) (a .least) c) where
       skipped : (x : Row) → Ahead s a x → Later ps (a .depth) c (numbers x)
       skipped x q = later-skip ps (numbers x) (a .depth) (a .least) c (λ h l. skips .over x (q .held) h l) (q .later)
 
       pub step-last : m < c → (b : Stand) → b ≡ back n a → Advance s Done a b
       step-last l =
           step-back
-          (λ x q h. absurd (omega (arith, ends .all x (q .held) h, later-begun ps (numbers x) (a .depth) c h (skipped x q))))
+          (λ x q h. absurd (omega (arith, ends .all x (q .held) h, later-begun ps (numbers x) (a .depth) c h (skipped x q)))) (λ x d. absurd (none x d))
 
       -- the choice is taken
       module _ (l : c ≤ m) (further : Region) (e : further ≡ put n (a .part) (a .depth) c) where
@@ -248,6 +255,7 @@ module _ (s : Search) (ready : Ready s) (four : length (s .clocks .bounds) ≡ 4
           };
           fewer = rw changed (omega (arith, left, behind-further));
           none-again = λ x q. record { held = q .held; located = q .located ∙ same-location; later = less x (further-later x (q .later)) };
+          left-behind = λ x d. absurd (none x d);
           none-missed = λ x q. inr (record { held = q .held; located = q .located ∙ sym same-location; later = later-further x (skipped x q) });
         }
 
@@ -262,6 +270,7 @@ module _ (s : Search) (ready : Ready s) (four : length (s .clocks .bounds) ≡ 4
           };
           fewer = omega (arith, left);
           none-again = λ x q. record { held = q .held; located = q .located; later = later-skip ps (numbers x) (a .depth) (c + 1) (a .least) (λ h k. omega (arith, skips .on)) (q .later) };
+          left-behind = λ x d. absurd (none x d);
           none-missed = λ x q. inr (record { held = q .held; located = q .located; later = later-skip ps (numbers x) (a .depth) c (c + 1) (more x q) (skipped x q) });
         }
           where
