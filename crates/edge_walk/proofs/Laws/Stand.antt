@@ -316,3 +316,26 @@ module _ (s : Search) (ready : Ready s) (four : length (s .clocks .bounds) ≡ 4
         go x q (inr (j, l, h, b)) =
             inr (before-below (row-of n (a .part)) x (length-first n (a .part .intervals) (ready .few .few) (fours .intervals) ∙ sym (sized x (q .held) .0))
             (before-at ps (numbers x) j (long ∙ sym (count x (q .held))) (omega (arith, long)) (λ m k. sym (h m k)) b))
+
+-- many steps -----------------------------------------------------------------------------------------------------------------------------
+
+-- from a, where a walk began, it has come to b: what was ahead still is, or it is dealt with
+pub record Reached (s : Search) (Dealt : Row → Type 0) (a b : Stand) : Type 0 where
+  pub standing : Standing s b
+  pub to : (x : Row) → Ahead s a x → Dealt x ⊎ Ahead s b x
+  pub from : (x : Row) → Ahead s b x → Ahead s a x
+
+pub sets-out : (s : Search) (Dealt : Row → Type 0) (a : Stand) → Standing s a → Reached s Dealt a a
+sets-out s Dealt a stand = record { standing = stand; to = λ x q. inr q; from = λ x q. q }
+
+pub goes-on : (s : Search) (Dealt Done : Row → Type 0) (a b c : Stand) → Reached s Dealt a b → Advance s Done b c → ((x : Row) → Ahead s b x → Done x → Dealt x)
+    → Reached s Dealt a c
+goes-on s Dealt Done a b c v step dealt = record { standing = step .standing; to = λ x q. go x (v .to x q); from = λ x q. v .from x (step .none-again x q) }
+  where
+    further : (x : Row) → Ahead s b x → Done x ⊎ Ahead s c x → Dealt x ⊎ Ahead s c x
+    further x q (inl d) = inl (dealt x q d)
+    further x q (inr r) = inr r
+
+    go : (x : Row) → Dealt x ⊎ Ahead s b x → Dealt x ⊎ Ahead s c x
+    go x (inl d) = inl d
+    go x (inr q) = further x q (step .none-missed x q)

@@ -18,17 +18,12 @@ use Rattle.edge_walk.specs.declared.stand.Stand.{Stand}
 use Rattle.edge_walk.specs.declared.way.Way.{Way}
 use Rattle.automata.proofs.Laws.Tests.{Says, never, true-or-false, fails}
 use Rattle.automata.proofs.Laws.Checks.{every-law}
-use Rattle.edge_walk.proofs.Laws.Stand.{none-ahead, itself, no-region, met}
+use Rattle.edge_walk.proofs.Laws.Stand.{none-ahead, itself, no-region, met, Reached, goes-on}
 use Rattle.edge_walk.proofs.Laws.Along.{none-on, start-on, on-start}
 
 -- from where a visit began it has come to b, and all that is behind has passed
-pub record Visiting (s : Search) (p : Row → Bool) (a b : Stand) : Type 0 where
-  pub standing : Standing s b
-  pub to : (x : Row) → Ahead s a x → (p x ≡ true) ⊎ Ahead s b x
-  pub from : (x : Row) → Ahead s b x → Ahead s a x
-
-pub visit-begins : (s : Search) (p : Row → Bool) (a : Stand) → Standing s a → Visiting s p a a
-visit-begins s p a stand = record { standing = stand; to = λ x q. inr q; from = λ x q. q }
+abbrev pub Visiting : Search → (Row → Bool) → Stand → Stand → Type 0
+Visiting s p a b = Reached s (λ x. p x ≡ true) a b
 
 module _ (s : Search) (p : Row → Bool) (a b : Stand) (v : Visiting s p a b) where
   pub visit-ends : Ready s → length (s .clocks .bounds) ≡ 4 → b .depth ≡ 0 → AllPass (Ahead s a) p true
@@ -43,15 +38,8 @@ module _ (s : Search) (p : Row → Bool) (a b : Stand) (v : Visiting s p a b) wh
   visit-fails l done seen f = record { passed = λ t. never t; noticed = λ all. sym f ∙ seen .noticed (λ x q. all x (v .from x q)) }
 
   pub visit-on : (l done : Bool) → Seen s b p l done → l ≡ true → (c : Stand) → Advance s (λ x. (done ≡ true) × Begun s b x) b c → Visiting s p a c
-  visit-on l done seen t c step = record { standing = step .standing; to = λ x q. go x (v .to x q); from = λ x q. v .from x (step .none-again x q) }
-    where
-      further : (x : Row) → Ahead s b x → ((done ≡ true) × Begun s b x) ⊎ Ahead s c x → (p x ≡ true) ⊎ Ahead s c x
-      further x q (inl (d, h)) = inl (seen .passed t d x q h)
-      further x q (inr r) = inr r
-
-      go : (x : Row) → (p x ≡ true) ⊎ Ahead s b x → (p x ≡ true) ⊎ Ahead s c x
-      go x (inl h) = inl h
-      go x (inr q) = further x q (step .none-missed x q)
+  visit-on l done seen t c step =
+      goes-on s (λ x. p x ≡ true) (λ x. (done ≡ true) × Begun s b x) a b c v step (λ x q (d, h). seen .passed t d x q h)
 
 -- a look where all is chosen: at the part, if it is a region
 module _ (s : Search) (ready : Ready s) (four : length (s .clocks .bounds) ≡ 4) (a : Stand) (stand : Standing s a) (all : a .depth ≡ 1 + 2 * s .clocks .count) (p : Row → Bool) where

@@ -5,7 +5,8 @@ use borrow.Author.Needs.{needs}
 use borrow.Author.Tests.{not-true, not-false}
 use Rattle.automata.specs.Checks.{has}
 use Rattle.edge_walk.specs.Stand.{steps-left}
-use Rattle.edge_walk.proofs.Laws.Visit.{Visiting, visit-begins, visit-ends, visit-fails, visit-on}
+use Rattle.edge_walk.proofs.Laws.Stand.{sets-out}
+use Rattle.edge_walk.proofs.Laws.Visit.{Visiting, visit-ends, visit-fails, visit-on}
 use Rattle.region_lists.specs.Listed.{listed-rows}
 use Rattle.region_lists.proofs.inside.all_inside.Statement.{statement}
 use Rattle.region_lists.proofs.inside.all_inside.Tie as tie
@@ -21,7 +22,7 @@ bounds : (c : tie.Start Inv-loop μ-loop) → length (c .args .s .clocks .bounds
 bounds c = search needs
 
 loop-holds : tie.Need-loop-holds Inv-loop μ-loop
-loop-holds c = visit-begins _ _ _ (c .before .pre .1 .1 .1)
+loop-holds c = sets-out _ _ _ (c .before .pre .1 .1 .1)
 
 look-requires : tie.Need-look-requires Inv-loop μ-loop
 look-requires c κs = let s = c .before .before .before .before in (s .pre .0, (s .pre .1 .0, (s .pre .1 .1 .0, c .before .before .loop .inv .standing)))

@@ -3,7 +3,8 @@ use mathlib.Core.Path.{_≡_, refl, sym, _∙_}
 use lib.ListN.{length}
 use borrow.Author.Needs.{needs}
 use Rattle.edge_walk.specs.Stand.{steps-left}
-use Rattle.edge_walk.proofs.Laws.Meet.{Unmet, unmet-yet, nothing-met, one-met, not-all, unmet-on}
+use Rattle.edge_walk.proofs.Laws.Stand.{sets-out}
+use Rattle.edge_walk.proofs.Laws.Meet.{Unmet, nothing-met, one-met, not-all, unmet-on}
 use Rattle.edge_walk.proofs.choice.Search.meet.Statement.{statement}
 use Rattle.edge_walk.proofs.choice.Search.meet.Tie as tie
 
@@ -27,7 +28,7 @@ add-all : tie.Need-add-all Inv-loop μ-loop
 add-all c = search needs
 
 loop-holds : tie.Need-loop-holds Inv-loop μ-loop
-loop-holds c = unmet-yet _ _ (c .before .before .pre .1)
+loop-holds c = sets-out _ _ _ (c .before .before .pre .1)
 
 is-met-requires : tie.Need-is-met-requires Inv-loop μ-loop
 is-met-requires c κs = c .before .before .before .before .before .before .before .pre .0 .few
