@@ -4,13 +4,11 @@ pub mod Listed
 pub mod ListedNumbers
 pub mod ListRecords
 pub mod ListOrder
-pub mod NoFurther
-pub mod Agreeing
 pub mod NextRows
 pub mod Together
-pub mod Falling
 pub mod Ranked
-pub mod Kept
+pub mod Sole
+pub mod Choosing
 pub mod RegionCheck
 -- the calls together
 pub mod RegionCall

@@ -1,87 +1,21 @@
--- Whether an edge leads no further from a row than from another, a row that it was followed from before, where the rows of a location start and end,
--- and in which order they are taken: for the check of region lists. Assumes nothing.
-use Prim.Native.Nat.{ℕ, _+_, _*_, _-_, _≤_, _<_, Ordering·lt, Ordering·gt}
+-- Where the rows of a location start and end, and which of them an edge is walked from: for the check of region lists. Assumes nothing.
+use Prim.Native.Nat.{ℕ, zero, suc, _≤_, _<_}
 use mathlib.Core.Path.{_≡_}
-use mathlib.Core.Bool.{Bool, true, false, cond, not, _&&_, _||_}
+use mathlib.Core.Bool.{Bool, true, false}
+use mathlib.Core.Logic.{_⊎_}
 use mathlib.Core.List.{List}
 use lib.ListN.{getD}
-use lib.Dec.{eqb, leb, ltb}
-use Rattle.automata.specs.Comparison.{answer}
-use Rattle.automata.specs.Clocks.{at, allb}
+use Rattle.automata.specs.Clocks.{at}
 use Rattle.automata.specs.Row.{Row}
-use Rattle.automata.specs.Edge.{Action, keep, constant, clock, Update, idle, Edge}
+use Rattle.automata.specs.Edge.{Edge}
 use Rattle.automata.specs.Successors.{guardsb, edge-rows}
 use Rattle.automata.specs.Checks.{every, has}
-use Rattle.regions.specs.Values.{row-of}
-use Rattle.regions.specs.declared.region.Sought.{Sought}
-use Rattle.region_lists.specs.Listed.{listed-row}
+use Rattle.skylines.specs.Reach.{ReachOf}
+use Rattle.skylines.specs.Skyline.{member}
+use Rattle.region_lists.specs.Listed.{listed-row, listed-rows}
+use Rattle.region_lists.specs.RegionList.{NextListed}
 
--- two rows have a clock's interval and rank in common
-unfoldable pub agreeb : Row → Row → ℕ → Bool
-agreeb r s z = eqb (at (r .intervals) z) (at (s .intervals) z) && eqb (at (r .ranks) z) (at (s .ranks) z)
-
--- a clock in interval i, plus up less down, is below 0: every new value is above it
-abbrev pub underb : ℕ → ℕ → ℕ → Bool
-underb i up down = ltb (i + 2 * up) (2 * down)
-
--- .. is at the top of a clock with bound b or past it: every new interval but the top is below it, and at the top any order can be had
-abbrev pub overb : ℕ → ℕ → ℕ → ℕ → Bool
-overb b i up down = leb (2 * b + 1 + 2 * down) (i + 2 * up)
-
--- from intervals i and k it is beyond the same end of all that a clock with bound b can be: no new value of that clock tells them apart
-unfoldable pub beyondb : ℕ → ℕ → ℕ → ℕ → ℕ → Bool
-beyondb b i k up down = (underb i up down && underb k up down) || (overb b i up down && overb b k up down)
-
--- clock y is no lower in row r than in row s: it has a greater interval there, or the same one and no lesser rank
-unfoldable pub no-lowerb : Row → Row → ℕ → Bool
-no-lowerb r s y =
-    ltb (at (s .intervals) y) (at (r .intervals) y)
-    || (eqb (at (r .intervals) y) (at (s .intervals) y) && leb (at (s .ranks) y) (at (r .ranks) y))
-
--- what stands in the comparison to clock y of row r does so to that of row s: what is above the one that is no lower, or below the one that is no
--- higher. Where both sides are allowed or neither is, an order of the two clocks tells nothing, and they have to be the same
-unfoldable pub ordersb : ℕ → Row → Row → ℕ → Bool
-ordersb cmp r s y =
-    let above = answer cmp Ordering·gt in
-    let below = answer cmp Ordering·lt in
-    cond (above && not below) (no-lowerb r s y) (cond (below && not above) (no-lowerb s r y) (agreeb r s y))
-
--- the update of clock z, with this comparison, allows nothing from row r that it does not allow from row s
-abbrev pub narrowerb : List ℕ → Row → Row → ℕ → ℕ → Action → Bool
-narrowerb c r s z cmp keep = agreeb r s z
-narrowerb c r s z cmp (constant k) = true
-narrowerb c r s z cmp (clock y up down) = beyondb (at c z) (at (r .intervals) y) (at (s .intervals) y) up down || ordersb cmp r s y
-
--- .. every clock's update, for n clocks
-unfoldable pub no-further : List ℕ → ℕ → Edge → Row → Row → Bool
-no-further c n e r s = allb n (λ (z : ℕ). narrowerb c r s z (getD (e .updates) z idle .comparison) (getD (e .updates) z idle .action))
-
--- an edge leaves from the row, and all rows that it leads to from there are in the list
-pub record Inside (c : List ℕ) (rows : List Row) (e : Edge) (r : Row) : Type 0 where
-  pub leaves : r .location ≡ e .source
-  pub guarded : guardsb r (e .guards) ≡ true
-  pub inside : every (has rows) (edge-rows c e r) ≡ true
-
--- the same of a region that the edge was followed from before, if there is one
-abbrev pub Kept : List ℕ → ℕ → List Row → Edge → Sought → Type 0
-Kept c n rows e s = s .found ≡ true → Inside c rows e (row-of n (s .region))
-
--- an update allows values above a clock's
-unfoldable pub risesb : Update → Bool
-risesb u = by (u .action)
-  where
-    by : Action → Bool
-    by keep = false
-    by (constant k) = false
-    by (clock y up down) = answer (u .comparison) Ordering·gt
-
--- the update of clock z does not
-abbrev pub falls-at : Edge → ℕ → Bool
-falls-at e z = not (risesb (getD (e .updates) z idle))
-
--- none of n clocks' does
-unfoldable pub fallsb : ℕ → Edge → Bool
-fallsb n e = allb n (falls-at e)
+-- the rows of a location --------------------------------------------------------------------------------------------------------
 
 -- the first m of so many rows are in locations below l, and no other is
 pub record Starts (n : ℕ) (list : List ℕ) (count l m : ℕ) : Type 0 where
@@ -96,6 +30,57 @@ pub record Together (n : ℕ) (list : List ℕ) (count start l m : ℕ) : Type 0
   pub all : (i : ℕ) → start ≤ i → i < m → listed-row n list i .location ≡ l
   pub next : m < count → listed-row n list m .location ≡ l → ⊥
 
--- of the numbers from start to before end the one at turn t: from the last on down, or from the first on
-unfoldable pub turned : Bool → ℕ → ℕ → ℕ → ℕ
-turned down start end t = cond down (end - 1 - t) (start + t)
+-- rows of the list that are chosen ----------------------------------------------------------------------------------------------
+
+-- all rows that the edge leads to from row i pass a test
+abbrev pub Leads : List ℕ → Edge → ℕ → List ℕ → (Row → Bool) → ℕ → Type 0
+Leads c e n list p i = every p (edge-rows c e (listed-row n list i)) ≡ true
+
+-- a reach is that of the row whose number it has, which is one from lo to before hi that the edge can be taken from
+pub record Sits (c : List ℕ) (e : Edge) (n : ℕ) (list : List ℕ) (lo hi : ℕ) (m : List ℕ) : Type 0 where
+  pub from : lo ≤ at m 8
+  pub to : at m 8 < hi
+  pub located : listed-row n list (at m 8) .location ≡ e .source
+  pub guarded : guardsb (listed-row n list (at m 8)) (e .guards) ≡ true
+  pub reach : ReachOf c e (listed-row n list (at m 8)) (at m 8) m
+
+-- so do the first so many of them
+abbrev pub AllSit : List ℕ → Edge → ℕ → List ℕ → ℕ → ℕ → List (List ℕ) → ℕ → Type 0
+AllSit c e n list lo hi ms size = (k : ℕ) → k < size → Sits c e n list lo hi (member ms k)
+
+-- all rows that the edge leads to from the rows of the first so many pass a test
+abbrev pub AllLead : List ℕ → Edge → ℕ → List ℕ → (Row → Bool) → List (List ℕ) → ℕ → Type 0
+AllLead c e n list p ms size = (k : ℕ) → k < size → Leads c e n list p (at (member ms k) 8)
+
+-- row i is offered to those that are chosen, unless it is taken already: what passes from all that are chosen then passes from all that were, and from row i
+-- if it is taken now, as it is where none was chosen
+pub record Offers (c : List ℕ) (e : Edge) (n : ℕ) (list : List ℕ) (lo hi i : ℕ) (already : Bool) (ms : List (List ℕ)) (size : ℕ) (ms′ : List (List ℕ)) (size′ : ℕ) (taken : Bool) : Type 0 where
+  pub room : size′ ≤ 64
+  pub sit : AllSit c e n list lo hi ms′ size′
+  pub lead : (p : Row → Bool) → AllLead c e n list p ms′ size′ → AllLead c e n list p ms size
+  pub covers : (p : Row → Bool) → AllLead c e n list p ms′ size′ → taken ≡ true → (already ≡ true) ⊎ Leads c e n list p i
+  pub first : size ≡ 0 → taken ≡ true
+
+-- whether row j is taken
+abbrev pub taken-at : List Bool → ℕ → Bool
+taken-at ts j = getD ts j false
+
+-- of the rows from lo to before hi that are not taken some are chosen: all before the next one are taken then; what passes from the chosen rows passes from
+-- all that are newly taken
+pub record Chooses (c : List ℕ) (e : Edge) (n : ℕ) (list : List ℕ) (lo hi : ℕ) (ts ts′ : List Bool) (ms : List (List ℕ)) (size next : ℕ) : Type 0 where
+  pub sit : AllSit c e n list lo hi ms size
+  pub room : size ≤ 64
+  pub later : lo < hi → lo < next
+  pub within : next ≤ hi
+  pub taken : (j : ℕ) → lo ≤ j → j < next → taken-at ts′ j ≡ true
+  pub lead : (p : Row → Bool) → AllLead c e n list p ms size → (j : ℕ) → lo ≤ j → j < hi → taken-at ts′ j ≡ true → (taken-at ts j ≡ true) ⊎ Leads c e n list p j
+
+-- place 0 where the edge leads into the list from all that are chosen, else the place of one that lacks a next row
+abbrev pub Walked : List ℕ → Edge → ℕ → List ℕ → ℕ → List (List ℕ) → ℕ → ℕ → Type 0
+Walked c e n list count ms size zero = AllLead c e n list (has (listed-rows n list count)) ms size
+Walked c e n list count ms size (suc i) = NextListed (edge-rows c e) (listed-rows n list count) (suc i)
+
+-- .. from all rows from lo to before hi
+abbrev pub FromAll : List ℕ → Edge → ℕ → List ℕ → ℕ → ℕ → ℕ → ℕ → Type 0
+FromAll c e n list count lo hi zero = (j : ℕ) → lo ≤ j → j < hi → Leads c e n list (has (listed-rows n list count)) j
+FromAll c e n list count lo hi (suc i) = NextListed (edge-rows c e) (listed-rows n list count) (suc i)

@@ -6,7 +6,7 @@ ghost use lib.ListN.{length};
 ghost use Rattle.automata.specs.Row.{IsRow};
 ghost use Rattle.automata.specs.Edge.{Bounded};
 ghost use Rattle.automata.specs.Closed.{Ascends};
-ghost use Rattle.automata.specs.Successors.{guardsb, edge-rows};
+ghost use Rattle.automata.specs.Successors.{edge-rows};
 ghost use Rattle.regions.specs.Image.{deterministic};
 ghost use Rattle.automata.specs.Checks.{every, has};
 ghost use Rattle.regions.specs.Values.{bounds-of, row-of, edge-of};
@@ -16,54 +16,44 @@ ghost use Rattle.tables.specs.Values.{Describes};
 ghost use Rattle.region_lists.specs.Listed.{listed-rows, Listed};
 ghost use Rattle.automata.specs.Next.{by-edges};
 ghost use Rattle.region_lists.specs.RegionList.{NextListed};
-ghost use Rattle.region_lists.specs.Leading.{Kept, Starts, Together, turned};
+ghost use Rattle.region_lists.specs.Leading.{Starts, Together, AllSit, Walked, FromAll};
+use crate::choosing::choose;
 use crate::inside::leads_inside;
 use crate::listed::Found;
 use crate::listed::find;
 use crate::listed::location_at;
 use crate::listed::row_at;
 use crate::listed::rows_below;
-use crate::no_further::leads_no_further;
-use crate::slots::falls;
-use crate::slots::slot;
 use regions::edge::Edge;
 use regions::image::is_deterministic;
 use regions::region::Clocks;
 use regions::region::Region;
-use regions::region::Sought;
-use regions::region::missing;
 use table_records::head::Head;
 use tables::admission::edge_at;
 
-// Whether the edge leads from a region into the list, where it was looked up last, and the region that the edge was walked from.
-struct Turn {
-    inside: bool,
-    at: usize,
-    walked: Sought,
-}
-
-// Whether every region that an edge leads to from one in its source location, where its guards hold, is in the list. A deterministic edge leads to
-// one at most, which needs no walk.
-fn leads_into(
+// Whether a deterministic edge leads from a region of its source into the list: it leads to one region at most, where its guards hold.
+fn leads_to_one(
     list: &[u8],
     clocks: Clocks,
     count: usize,
     e: Edge,
-    sole: bool,
     from: Region,
     hint: usize,
 ) -> Found
     requires { ⌜ Listed clocks (now list) count ⌝ }
     requires { ⌜ Ascends (listed-rows (clocks .count) (now list) count) ⌝ }
+    requires { ⌜ e .«guard_count» ≤ 8 ⌝ }
     requires { ⌜ Bounded (bounds-of clocks) (edge-of (clocks .count) e) ⌝ }
-    requires { ⌜ sole ≡ deterministic (clocks .count) (edge-of (clocks .count) e) ⌝ }
+    requires { ⌜ deterministic (clocks .count) (edge-of (clocks .count) e) ≡ true ⌝ }
     requires { ⌜ IsRow (bounds-of clocks) (row-of (clocks .count) from) ⌝ }
     requires { ⌜ from .location ≡ e .source ⌝ }
-    requires { ⌜ guardsb (row-of (clocks .count) from) (edge-of (clocks .count) e .guards) ≡ true ⌝ }
     ensures { λ r. ⌜ r .listed ≡ every (has (listed-rows (clocks .count) (now (list .entry)) count)) (edge-rows (bounds-of clocks) (edge-of (clocks .count) e) (row-of (clocks .count) from)) ⌝ }
 {
-    if !sole {
-        return leads_inside(list, clocks, count, e, from, hint);
+    if !from.guards_hold(clocks, e) {
+        return Found {
+            listed: true,
+            at: hint,
+        };
     }
     let next = from.image(clocks, e);
     if !next.found {
@@ -74,61 +64,6 @@ fn leads_into(
     }
     let region = next.region;
     find(list, clocks, count, region, hint)
-}
-
-// The same where the guards may fail. The edge is not followed from a region where it leads no further than from one that it was followed from
-// before.
-fn leads_on(
-    list: &[u8],
-    clocks: Clocks,
-    count: usize,
-    e: Edge,
-    sole: bool,
-    walked: Sought,
-    from: Region,
-    hint: usize,
-) -> Turn
-    requires { ⌜ Listed clocks (now list) count ⌝ }
-    requires { ⌜ Ascends (listed-rows (clocks .count) (now list) count) ⌝ }
-    requires { ⌜ e .«guard_count» ≤ 8 ⌝ }
-    requires { ⌜ Bounded (bounds-of clocks) (edge-of (clocks .count) e) ⌝ }
-    requires { ⌜ sole ≡ deterministic (clocks .count) (edge-of (clocks .count) e) ⌝ }
-    requires { ⌜ Kept (bounds-of clocks) (clocks .count) (listed-rows (clocks .count) (now list) count) (edge-of (clocks .count) e) walked ⌝ }
-    requires { ⌜ IsRow (bounds-of clocks) (row-of (clocks .count) from) ⌝ }
-    requires { ⌜ from .location ≡ e .source ⌝ }
-    ensures answer { λ r. ⌜ r .inside ≡ every (has (listed-rows (clocks .count) (now (list .entry)) count)) (edge-rows (bounds-of clocks) (edge-of (clocks .count) e) (row-of (clocks .count) from)) ⌝ }
-    ensures kept { λ r. ⌜ Kept (bounds-of clocks) (clocks .count) (listed-rows (clocks .count) (now (list .entry)) count) (edge-of (clocks .count) e) (r .walked) ⌝ }
-{
-    if !from.guards_hold(clocks, e) {
-        return Turn {
-            inside: true,
-            at: hint,
-            walked: walked,
-        };
-    }
-    if leads_no_further(clocks, e, from, walked) {
-        return Turn {
-            inside: true,
-            at: hint,
-            walked: walked,
-        };
-    }
-    let found = leads_into(list, clocks, count, e, sole, from, hint);
-    if !found.listed {
-        return Turn {
-            inside: false,
-            at: hint,
-            walked: walked,
-        };
-    }
-    Turn {
-        inside: true,
-        at: found.at,
-        walked: Sought {
-            found: true,
-            region: from,
-        },
-    }
 }
 
 // How many rows are in the locations before this one: looked for by halves, since a hint past the end tells nothing.
@@ -162,20 +97,99 @@ fn rows_end(list: &[u8], n: usize, count: usize, start: usize, location: u8) -> 
     i
 }
 
-// Which of the rows from start to before end comes at turn t: from the last one on down if the edge falls, else from the first one on.
-fn row_at_turn(falling: bool, start: usize, end: usize, t: usize) -> usize
-    requires { ⌜ (start + t < end) × (end ≤ 4096) ⌝ }
-    ensures { λ r. ⌜ r ≡ turned falling start end t ⌝ }
+// The place of a row from start to before end that lacks its next row by a deterministic edge, or 0.
+fn lacks_image(list: &[u8], clocks: Clocks, count: usize, e: Edge, start: usize, end: usize) -> u16
+    requires { ⌜ Listed clocks (now list) count ⌝ }
+    requires { ⌜ Ascends (listed-rows (clocks .count) (now list) count) ⌝ }
+    requires { ⌜ e .«guard_count» ≤ 8 ⌝ }
+    requires { ⌜ Bounded (bounds-of clocks) (edge-of (clocks .count) e) ⌝ }
+    requires { ⌜ deterministic (clocks .count) (edge-of (clocks .count) e) ≡ true ⌝ }
+    requires { ⌜ Together (clocks .count) (now list) count start (e .source) end ⌝ }
+    ensures { λ r. ⌜ FromAll (bounds-of clocks) (edge-of (clocks .count) e) (clocks .count) (now (list .entry)) count start end r ⌝ }
 {
-    if falling {
-        return end - 1 - t;
+    let n = clocks.count as usize;
+    let mut hint = 2 * count;
+    let mut i = start;
+    while i < end {
+        let row = row_at(list, n, i);
+        let found = leads_to_one(list, clocks, count, e, row, hint);
+        if !found.listed {
+            return (i + 1) as u16;
+        }
+        hint = found.at;
+        i += 1;
     }
-    start + t
+    0
 }
 
-// The place of a row that lacks a next row by this edge, or 0. Rows ascend, so those in the edge's source location stand together. The regions that
-// the edge was walked from are kept in slots, by the numbers that it asks to be the same: in each slot the last. It is walked first from where it
-// leads furthest: from the last row where it falls, else from the first.
+// The place of one of the rows that were chosen which lacks a next row by the edge, or 0: it is walked from each.
+fn lacks_from(
+    list: &[u8],
+    clocks: Clocks,
+    count: usize,
+    e: Edge,
+    members: &[[u32; 9]],
+    size: usize,
+) -> u16
+    requires { ⌜ Listed clocks (now list) count ⌝ }
+    requires { ⌜ Ascends (listed-rows (clocks .count) (now list) count) ⌝ }
+    requires { ⌜ Bounded (bounds-of clocks) (edge-of (clocks .count) e) ⌝ }
+    requires { ⌜ size ≤ length (now members) ⌝ }
+    requires { ⌜ AllSit (bounds-of clocks) (edge-of (clocks .count) e) (clocks .count) (now list) 0 count (now members) size ⌝ }
+    ensures { λ r. ⌜ Walked (bounds-of clocks) (edge-of (clocks .count) e) (clocks .count) (now (list .entry)) count (now (members .entry)) size r ⌝ }
+{
+    let n = clocks.count as usize;
+    let mut hint = 2 * count;
+    let mut k = 0;
+    while k < size {
+        let member = members[k];
+        let i = member[8] as usize;
+        let row = row_at(list, n, i);
+        let found = leads_inside(list, clocks, count, e, row, hint);
+        if !found.listed {
+            return (i + 1) as u16;
+        }
+        hint = found.at;
+        k += 1;
+    }
+    0
+}
+
+// The place of a row from start to before end that lacks a next row by the edge, or 0. It is walked only from rows that it leads furthest from: as many as
+// there is room for are chosen at a time, and what had to be left out comes the next time.
+fn lacks_walks(list: &[u8], clocks: Clocks, count: usize, e: Edge, start: usize, end: usize) -> u16
+    requires { ⌜ Listed clocks (now list) count ⌝ }
+    requires { ⌜ Ascends (listed-rows (clocks .count) (now list) count) ⌝ }
+    requires { ⌜ e .«guard_count» ≤ 8 ⌝ }
+    requires { ⌜ Bounded (bounds-of clocks) (edge-of (clocks .count) e) ⌝ }
+    requires { ⌜ Together (clocks .count) (now list) count start (e .source) end ⌝ }
+    ensures { λ r. ⌜ FromAll (bounds-of clocks) (edge-of (clocks .count) e) (clocks .count) (now (list .entry)) count start end r ⌝ }
+{
+    let none = [0; 9];
+    let mut members = [none; 64];
+    let mut taken = [false; 4096];
+    let mut from = start;
+    while from < end {
+        let chosen = choose(
+            list,
+            clocks,
+            count,
+            e,
+            from,
+            end,
+            &mut taken[..],
+            &mut members[..],
+        );
+        let place = lacks_from(list, clocks, count, e, &members[..], chosen.size);
+        if place != 0 {
+            return place;
+        }
+        from = chosen.next;
+    }
+    0
+}
+
+// The place of a row that lacks a next row by this edge, or 0. Rows ascend, so those in the edge's source location stand together.
 fn lacks_by_edge(list: &[u8], clocks: Clocks, count: usize, e: Edge) -> u16
     requires { ⌜ Listed clocks (now list) count ⌝ }
     requires { ⌜ Ascends (listed-rows (clocks .count) (now list) count) ⌝ }
@@ -184,28 +198,12 @@ fn lacks_by_edge(list: &[u8], clocks: Clocks, count: usize, e: Edge) -> u16
     ensures { λ r. ⌜ NextListed (edge-rows (bounds-of clocks) (edge-of (clocks .count) e)) (listed-rows (clocks .count) (now (list .entry)) count) r ⌝ }
 {
     let n = clocks.count as usize;
-    let sole = is_deterministic(clocks, e);
-    let falling = falls(clocks, e);
     let start = rows_before(list, clocks, count, e.source);
     let end = rows_end(list, n, count, start, e.source);
-    let mut walked = [missing(); 64];
-    let mut hint = 2 * count;
-    let mut t = 0;
-    while t < end - start {
-        let i = row_at_turn(falling, start, end, t);
-        let row = row_at(list, n, i);
-        let k = slot(clocks, e, falling, row);
-        let last = walked[k];
-        let turn = leads_on(list, clocks, count, e, sole, last, row, hint);
-        if !turn.inside {
-            return (i + 1) as u16;
-        }
-        hint = turn.at;
-        let kept = turn.walked;
-        walked[k] = kept;
-        t += 1;
+    if is_deterministic(clocks, e) {
+        return lacks_image(list, clocks, count, e, start, end);
     }
-    0
+    lacks_walks(list, clocks, count, e, start, end)
 }
 
 // The place of a row that lacks a next row by some edge, or 0: edge by edge, so that each is read once.

@@ -3,8 +3,7 @@ pub mod listed; // the rows of a region list
 pub mod list_records; // reading a region list
 pub mod list_order; // its order and its locations
 pub mod waiting; // whether it has what follows its rows in time
-pub mod no_further; // whether an edge leads no further from one region than from another
-pub mod slots; // in which order rows are taken, and where regions are kept
+pub mod choosing; // which rows an edge is walked from
 pub mod ranked; // whether it has all regions that differ in their ranks alone
 pub mod inside; // whether it has what an edge leads to from one region
 pub mod leading; // whether it has what the edges lead to

@@ -35,8 +35,7 @@ use Rattle.table_files.proofs.Laws.Reading.{itself}
 use Rattle.table_files.proofs.Laws.Admission.{admission-admitted}
 use Rattle.region_lists.specs.Listed.{listed-row, listed-rows}
 use Rattle.region_lists.specs.RegionList.{NextListed}
-use Rattle.region_lists.specs.Leading.{no-further, Kept}
-use Rattle.region_lists.proofs.Laws.NoFurther.{select-none, none-further}
+use Rattle.skylines.proofs.Laws.NoFurther.{select-none}
 use Rattle.region_lists.proofs.Laws.Listed.{listed-length, listed-at, in-listed}
 
 -- one region that may be missing ---------------------------------------------------------------------------------------------------------
@@ -104,15 +103,6 @@ edge-blocked c e r p h =
     go true true k l = refl
     go true false k l = refl
     go false b k l = refl
-
--- from a row where it leads no further than from one that it was walked from, it leads into the list
-pub kept-no-further : (c : List ℕ) (n : ℕ) → length c ≡ n → (rows : List Row) (e : Edge) (walked : Sought) (r : Row) → Kept c n rows e walked
-    → (walked .found && no-further c n e r (row-of n (walked .region))) ≡ true → r .location ≡ e .source → guardsb r (e .guards) ≡ true
-    → true ≡ every (has rows) (edge-rows c e r)
-kept-no-further c n sized rows e walked r kept narrow l g =
-    let (f, s) = and-law (walked .found) (no-further c n e r (row-of n (walked .region))) (itself (walked .found)) (itself (no-further c n e r (row-of n (walked .region)))) .0 narrow in
-    let k = kept f in
-    sym (none-further c e r (row-of n (walked .region)) (rw sized s) (l ∙ sym (k .leaves)) (g ∙ sym (k .guarded)) (has rows) (k .inside))
 
 -- row by row -----------------------------------------------------------------------------------------------------------------------------
 

@@ -1,9 +1,9 @@
 -- The rows of a location stand together in an ascending list. Assumes nothing.
-use Prim.Native.Nat.{ℕ, zero, suc, _+_, _-_, _≤_, _<_}
+use Prim.Native.Nat.{ℕ, zero, suc, _+_, _≤_, _<_}
 use native.Mathlib.Decide.{decLe, decLt, ℕ-discrete}
 use native.Mathlib.Omega.{arith}
 use mathlib.Core.Path.{_≡_, refl, sym}
-use mathlib.Core.Bool.{Bool, true, false}
+use mathlib.Core.Bool.{true}
 use mathlib.Core.Logic.{inl, inr}
 use mathlib.Core.List.{List, [], _∷_}
 use lib.ListN.{length, take, replicate}
@@ -19,7 +19,7 @@ use Rattle.regions.proofs.Laws.Values.{length-first}
 use Rattle.automata.proofs.Laws.Checks.{belowb-law}
 use Rattle.region_lists.specs.Listed.{listed-row, listed-rows, Splits}
 use Rattle.region_lists.specs.RegionList.{NextListed}
-use Rattle.region_lists.specs.Leading.{Starts, Together, turned}
+use Rattle.region_lists.specs.Leading.{Starts, Together, Leads, FromAll}
 use Rattle.region_lists.proofs.Laws.Listed.{listed-rise}
 use Rattle.region_lists.proofs.Laws.ListedNumbers.{intervals-long, ranks-long}
 use Rattle.region_lists.proofs.Laws.NextRows.{next-all, edge-elsewhere}
@@ -84,54 +84,16 @@ one-more f a start i all e j h l = go (ℕ-discrete j i)
     go (yes q) = rw q e
     go (no q) = all j h (omega arith)
 
--- the rows of a location, one after the other in either order ----------------------------------------------------------------------------
+-- from the rows of its source to all rows ----------------------------------------------------------------------------------------------
 
--- a turn's number is between start and end, and each of those has a turn
-turned-within : (down : Bool) (start end t : ℕ) → start + t < end → (start ≤ turned down start end t) × (turned down start end t < end)
-unfolding turned
-turned-within true start end t h = (omega arith, omega arith)
-turned-within false start end t h = (omega arith, omega arith)
-
-pub turned-last : (down : Bool) (start end t : ℕ) → down ≡ true → end - 1 - t ≡ turned down start end t
-unfolding turned
-turned-last down start end t e = rw e refl
-
-pub turned-first : (down : Bool) (start end t : ℕ) → down ≡ false → start + t ≡ turned down start end t
-unfolding turned
-turned-first down start end t e = rw e refl
-
-has-turn : (down : Bool) (start end j : ℕ) → start ≤ j → j < end → (t : ℕ) × (start + t < end) × (turned down start end t ≡ j)
-unfolding turned
-has-turn true start end j h l = (end - 1 - j, omega arith, omega arith)
-has-turn false start end j h l = (j - start, omega arith, omega arith)
-
-module _ (n : ℕ) (list : List ℕ) (count : ℕ) (c : List ℕ) (e : Edge) (down : Bool) (start end : ℕ) where
+module _ (n : ℕ) (list : List ℕ) (count : ℕ) (c : List ℕ) (e : Edge) (start end : ℕ) where
   abbrev rows : List Row
   rows = listed-rows n list count
 
-  -- from the rows of the turns before t the edge leads into the list
-  pub record Turned (t : ℕ) : Type 0 where
-    pub so-far : (s : ℕ) → s < t → every (has rows) (edge-rows c e (listed-row n list (turned down start end s))) ≡ true
-
-  pub turned-nothing : Turned 0
-  turned-nothing = record { so-far = λ s h. absurd (omega arith) }
-
-  pub turned-on : (t i : ℕ) → Turned t → i ≡ turned down start end t → every (has rows) (edge-rows c e (listed-row n list i)) ≡ true → Turned (t + 1)
-  turned-on t i T d b = record { so-far = λ s h. go s h (ℕ-discrete s t) }
-    where
-      go : (s : ℕ) → s < t + 1 → Dec (s ≡ t) → every (has rows) (edge-rows c e (listed-row n list (turned down start end s))) ≡ true
-      go s h (yes q) = rw (q, ← d) b
-      go s h (no q) = T .so-far s (omega arith)
-
   -- an edge leads nowhere from the rows before those of its source, and from those after them
-  module _ (S : Starts n list count (e .source) start) (E : Together n list count start (e .source) end) where
-    pub turn-within : (t i : ℕ) → t < end - start → i ≡ turned down start end t → (i < count) × (listed-row n list i .location ≡ e .source)
-    turn-within t i h d =
-        let (a, b) = turned-within down start end t (omega arith) in
-        (omega (arith, E .within), E .all i (omega arith) (omega arith))
-
-    pub turned-all : Ascends rows → (t : ℕ) → Turned t → end - start ≤ t → NextListed (edge-rows c e) rows 0
-    turned-all a t T h = next-all (edge-rows c e) n list count count (record { within = omega arith; so-far = λ j k. go j k (decLe start j) (decLt j end) }) (omega arith)
+  module _ (S : Starts n list count (e .source) start) (E : Together n list count start (e .source) end) (a : Ascends rows) where
+    all-inside : ((j : ℕ) → start ≤ j → j < end → Leads c e n list (has rows) j) → NextListed (edge-rows c e) rows 0
+    all-inside T = next-all (edge-rows c e) n list count count (record { within = omega arith; so-far = λ j k. go j k (decLe start j) (decLt j end) }) (omega arith)
       where
         elsewhere : (j : ℕ) → (listed-row n list j .location ≡ e .source → ⊥) → every (has rows) (edge-rows c e (listed-row n list j)) ≡ true
         elsewhere j g = sym (edge-elsewhere c e (listed-row n list j) (has rows) g)
@@ -149,5 +111,9 @@ module _ (n : ℕ) (list : List ℕ) (count : ℕ) (c : List ℕ) (e : Edge) (do
 
         go : (j : ℕ) → j < count → Dec (start ≤ j) → Dec (j < end) → every (has rows) (edge-rows c e (listed-row n list j)) ≡ true
         go j k (no g) q = elsewhere j (λ x. omega (arith, S .before j (omega arith)))
-        go j k (yes g) (yes q) = let (s, l, d) = has-turn down start end j g q in rw d at (T .so-far s (omega arith))
+        go j k (yes g) (yes q) = T j g q
         go j k (yes g) (no q) = elsewhere j (λ x. omega (arith, past j k (omega arith)))
+
+    pub from-all : (place : ℕ) → FromAll c e n list count start end place → NextListed (edge-rows c e) rows place
+    from-all zero T = all-inside T
+    from-all (suc i) T = T

@@ -1,0 +1,4 @@
+-- The laws of skylines.
+pub mod NoFurther
+pub mod Reach
+pub mod Covered

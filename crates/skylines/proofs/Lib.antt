@@ -1,0 +1,2 @@
+-- The laws of skylines.
+pub mod Laws
