@@ -10,3 +10,4 @@ pub mod Trim
 pub mod Way
 pub mod Along
 pub mod Visit
+pub mod Allowing

@@ -3,3 +3,4 @@ pub mod choice; // the choices for one number of a region
 pub mod stand; // where a walk stands, and its steps
 pub mod walk; // the walk from one of an edge's next regions to the one after it
 pub mod way; // what a walk goes by: an edge's way from a region
+pub mod allowing; // whether the moves allow a region

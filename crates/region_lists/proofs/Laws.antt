@@ -9,6 +9,7 @@ pub mod Together
 pub mod Ranked
 pub mod Sole
 pub mod Choosing
+pub mod Counted
 pub mod RegionCheck
 -- the calls together
 pub mod RegionCall

@@ -3,3 +3,4 @@ pub mod Listed
 pub mod Ranked
 pub mod RegionList
 pub mod Leading
+pub mod Counted

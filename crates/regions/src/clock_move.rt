@@ -89,7 +89,7 @@ impl Move {
     }
 
     // Whether the order is that of the fractional parts.
-    fn is_by_parts(self, interval: u16) -> bool
+    pub fn is_by_parts(self, interval: u16) -> bool
         ensures { λ r. ⌜ r ≡ (eqb (interval + self .shift) (self .reference) && eqb (interval % 2) 1) ⌝ }
     {
         if (interval as u64) + (self.shift as u64) != self.reference as u64 {
@@ -121,7 +121,7 @@ impl Move {
     }
 
     // Whether the move permits the interval, at some position.
-    fn permits(self, interval: u16) -> bool
+    pub fn permits(self, interval: u16) -> bool
         ensures { λ r. ⌜ r ≡ permitsb self interval ⌝ }
     {
         if self.is_free(interval) {

@@ -21,7 +21,7 @@ use Rattle.automata.proofs.Laws.Rows.{rank-lists-in, rank-lists-sorted}
 
 -- as many ascending elements of a sorted list as it has are all of them
 module _ {A : Type 0} (R : A → A → Type 0) (trans : (a b d : A) → R a b → R b d → R a d) (itself : (a : A) → R a a → ⊥) where
-  abbrev Grows : ℕ → (ℕ → A) → Type 0
+  abbrev pub Grows : ℕ → (ℕ → A) → Type 0
   Grows n f = (i j : ℕ) → i < j → j < n → R (f i) (f j)
 
   -- the ones after the first are above the list's first, so they are in its rest
@@ -38,7 +38,7 @@ module _ {A : Type 0} (R : A → A → Type 0) (trans : (a b d : A) → R a b �
       go (inr k) (inl e) = absurd (itself y (trans y (f 0) y (s .0 (f 0) k) (rw e at above)))
 
   -- those after the first are the whole rest, so the first, which is none of them, is the list's first
-  all-of : (ys : List A) → Sorted R ys → (f : ℕ → A) → Grows (length ys) f → ((i : ℕ) → i < length ys → Mem (f i) ys)
+  pub all-of : (ys : List A) → Sorted R ys → (f : ℕ → A) → Grows (length ys) f → ((i : ℕ) → i < length ys → Mem (f i) ys)
       → (x : A) → Mem x ys → (i : ℕ) × (i < length ys) × (f i ≡ x)
   all-of [] s f up m x k = absurd (List·Memᴰ·not-nil k)
   all-of (y ∷ ys) s f up m x k =
@@ -56,17 +56,17 @@ module _ {A : Type 0} (R : A → A → Type 0) (trans : (a b d : A) → R a b �
 -- the ranks of rows -------------------------------------------------------------------------------------------------------------------
 
 -- below the ranks of n clocks none is missing
-unfoldable fullb : ℕ → List ℕ → Bool
+unfoldable pub fullb : ℕ → List ℕ → Bool
 fullb n ks = allb n (λ (z : ℕ). allb (at ks z) (λ (k : ℕ). not (ltb 0 k) || someb n (λ (w : ℕ). eqb (at ks w) k)))
 
-row-full : (c : List ℕ) (r : Row) → IsRow c r → fullb (length c) (r .ranks) ≡ true
+pub row-full : (c : List ℕ) (r : Row) → IsRow c r → fullb (length c) (r .ranks) ≡ true
 unfolding fullb
 row-full c r i =
     allb-law (length c) _ (λ z. allb-law (at (r .ranks) z) _ (λ k. implies-law (ltb 0 k) _ (ltb-law 0 k) (someb-law (length c) _ (λ w. eqb-law (at (r .ranks) w) k)))) .1
     (λ z h k q p. i .dense z k h p q)
 
 -- all ranks of n clocks with none missing, where the clocks that pass the test are open
-abbrev ranked : ℕ → (ℕ → Bool) → List (List ℕ)
+abbrev pub ranked : ℕ → (ℕ → Bool) → List (List ℕ)
 ranked n p = select (fullb n) (choices (λ (z : ℕ). cond (p z) (from 1 n) (0 ∷ [])) n)
 
 -- how many they are -------------------------------------------------------------------------------------------------------------------
@@ -77,11 +77,11 @@ each-of f h true = and-law (f true) (f false) (λ p. p, λ p. p) (λ p. p, λ p.
 each-of f h false = and-law (f true) (f false) (λ p. p, λ p. p) (λ p. p, λ p. p) .0 h .1
 
 -- whether all lists of n answers pass a test
-abbrev every-way : ℕ → (List Bool → Bool) → Bool
+abbrev pub every-way : ℕ → (List Bool → Bool) → Bool
 every-way zero t = t []
 every-way (suc n) t = every-way n (λ (bs : List Bool). t (true ∷ bs)) && every-way n (λ (bs : List Bool). t (false ∷ bs))
 
-each-way : (n : ℕ) (t : List Bool → Bool) → every-way n t ≡ true → (bs : List Bool) → length bs ≡ n → t bs ≡ true
+pub each-way : (n : ℕ) (t : List Bool → Bool) → every-way n t ≡ true → (bs : List Bool) → length bs ≡ n → t bs ≡ true
 each-way zero t h [] e = h
 each-way zero t h (b ∷ bs) e = absurd (omega arith)
 each-way (suc n) t h [] e = absurd (omega arith)
@@ -98,11 +98,11 @@ abbrev agrees : ℕ → List Bool → Bool
 agrees n bs = let p : ℕ → Bool = λ (z : ℕ). getD bs z false in eqb (length (ranked n p)) (rankings (passes n p))
 
 module _ (c js : List ℕ) where
-  abbrev opens : ℕ → Bool
+  abbrev pub opens : ℕ → Bool
   opens z = openb (at c z) (at js z)
 
   -- all patterns of up to four clocks, by counting
-  counted : (n : ℕ) → n ≤ 4 → length (ranked n opens) ≡ rankings (open-clocks c js n)
+  pub counted : (n : ℕ) → n ≤ 4 → length (ranked n opens) ≡ rankings (open-clocks c js n)
   unfolding open-clocks rankings fullb allb someb
   counted zero h = refl
   counted (suc zero) h = eqb-law _ _ .0 (each-way 1 (agrees 1) refl (opens 0 ∷ []) refl)

@@ -84,35 +84,45 @@ one-more f a start i all e j h l = go (ℕ-discrete j i)
     go (yes q) = rw q e
     go (no q) = all j h (omega arith)
 
+-- the rows of a location, and no others, stand from its start to its end ------------------------------------------------------------------
+
+module _ (n : ℕ) (list : List ℕ) (count l start end : ℕ) (S : Starts n list count l start) (E : Together n list count start l end) (a : Ascends (listed-rows n list count)) where
+  pub past : (j : ℕ) → j < count → end ≤ j → l < listed-row n list j .location
+  past j k g = at-or-after (ℕ-discrete j end)
+    where
+      first : l < listed-row n list end .location
+      first = let h : end < count = omega arith in omega (arith, S .others end (E .from) h, E .next h)
+
+      at-or-after : Dec (j ≡ end) → l < listed-row n list j .location
+      at-or-after (yes q) = rw q first
+      at-or-after (no q) =
+          omega (arith, first, below-location (listed-row n list end) (listed-row n list j) (listed-rise n list count a end j (omega arith) k))
+
+  pub between : (j : ℕ) → j < count → listed-row n list j .location ≡ l → (start ≤ j) × (j < end)
+  between j k e = (from (decLe start j), to (decLt j end))
+    where
+      from : Dec (start ≤ j) → start ≤ j
+      from (yes h) = h
+      from (no h) = absurd (omega (arith, S .before j (omega arith)))
+
+      to : Dec (j < end) → j < end
+      to (yes h) = h
+      to (no h) = absurd (omega (arith, past j k (omega arith)))
+
 -- from the rows of its source to all rows ----------------------------------------------------------------------------------------------
 
 module _ (n : ℕ) (list : List ℕ) (count : ℕ) (c : List ℕ) (e : Edge) (start end : ℕ) where
   abbrev rows : List Row
   rows = listed-rows n list count
 
-  -- an edge leads nowhere from the rows before those of its source, and from those after them
+  -- an edge leads nowhere from the rows of other locations than its source
   module _ (S : Starts n list count (e .source) start) (E : Together n list count start (e .source) end) (a : Ascends rows) where
     all-inside : ((j : ℕ) → start ≤ j → j < end → Leads c e n list (has rows) j) → NextListed (edge-rows c e) rows 0
-    all-inside T = next-all (edge-rows c e) n list count count (record { within = omega arith; so-far = λ j k. go j k (decLe start j) (decLt j end) }) (omega arith)
+    all-inside T = next-all (edge-rows c e) n list count count (record { within = omega arith; so-far = λ j k. go j k (ℕ-discrete (listed-row n list j .location) (e .source)) }) (omega arith)
       where
-        elsewhere : (j : ℕ) → (listed-row n list j .location ≡ e .source → ⊥) → every (has rows) (edge-rows c e (listed-row n list j)) ≡ true
-        elsewhere j g = sym (edge-elsewhere c e (listed-row n list j) (has rows) g)
-
-        past : (j : ℕ) → j < count → end ≤ j → e .source < listed-row n list j .location
-        past j k g = at-or-after (ℕ-discrete j end)
-          where
-            first : e .source < listed-row n list end .location
-            first = let h : end < count = omega arith in omega (arith, S .others end (E .from) h, E .next h)
-
-            at-or-after : Dec (j ≡ end) → e .source < listed-row n list j .location
-            at-or-after (yes q) = rw q first
-            at-or-after (no q) =
-                omega (arith, first, below-location (listed-row n list end) (listed-row n list j) (listed-rise n list count a end j (omega arith) k))
-
-        go : (j : ℕ) → j < count → Dec (start ≤ j) → Dec (j < end) → every (has rows) (edge-rows c e (listed-row n list j)) ≡ true
-        go j k (no g) q = elsewhere j (λ x. omega (arith, S .before j (omega arith)))
-        go j k (yes g) (yes q) = T j g q
-        go j k (yes g) (no q) = elsewhere j (λ x. omega (arith, past j k (omega arith)))
+        go : (j : ℕ) → j < count → Dec (listed-row n list j .location ≡ e .source) → every (has rows) (edge-rows c e (listed-row n list j)) ≡ true
+        go j k (yes q) = let (h, g) = between n list count (e .source) start end S E a j k q in T j h g
+        go j k (no q) = sym (edge-elsewhere c e (listed-row n list j) (has rows) q)
 
     pub from-all : (place : ℕ) → FromAll c e n list count start end place → NextListed (edge-rows c e) rows place
     from-all zero T = all-inside T

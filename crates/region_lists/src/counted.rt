@@ -1,0 +1,31 @@
+// Whether a region list has all regions on an edge's way, by their number: none is looked up. Those of its rows in the target that the moves allow are on the
+// way, and no two are the same; so it has all of them just if it has as many as there are.
+ghost use mathlib.Core.Path.{_≡_};
+ghost use Prim.Native.Nat.{_+_, _*_, _-_, _≤_};
+ghost use lib.ListN.{length};
+ghost use Rattle.calls.specs.RegionFile.{row-width};
+ghost use Rattle.edge_walk.specs.Choice.{allowsb, Ready};
+ghost use Rattle.region_lists.specs.Listed.{listed-row};
+ghost use Rattle.region_lists.specs.Counted.{passing};
+use crate::listed::row_at;
+use edge_walk::choice::Search;
+
+// How many of the rows from start to before end the moves allow.
+pub fn allowed_rows(list: &[u8], s: Search, start: usize, end: usize) -> usize
+    requires { ⌜ Ready s ⌝ }
+    requires { ⌜ (start ≤ end) × (end ≤ 4096) ⌝ }
+    requires { ⌜ 4 + end * row-width (s .clocks .count) ≤ length (now list) ⌝ }
+    ensures { λ r. ⌜ r ≡ passing (allowsb s) (listed-row (s .clocks .count) (now (list .entry))) start (end - start) ⌝ }
+{
+    let n = s.clocks.count as usize;
+    let mut total = 0;
+    let mut i = start;
+    while i < end {
+        let row = row_at(list, n, i);
+        if s.allows(row) {
+            total += 1;
+        }
+        i += 1;
+    }
+    total
+}
