@@ -28,6 +28,7 @@ pub fn open_way(clocks: Clocks, from: Region, e: Edge) -> Way
     requires { ⌜ Bounded (bounds-of clocks) (edge-of (clocks .count) e) ⌝ }
     ensures ready { λ r. ⌜ Ready (r .search) ⌝ }
     ensures clocks { λ r. ⌜ r .search .clocks ≡ clocks ⌝ }
+    ensures target { λ r. ⌜ r .target ≡ e .target ⌝ }
     ensures rows { λ r. ⌜ (from .location ≡ e .source → guardsb (row-of (clocks .count) from) (edge-of (clocks .count) e .guards) ≡ true → way-rows r ≡ edge-rows (bounds-of clocks) (edge-of (clocks .count) e) (row-of (clocks .count) from)) ⌝ }
 {
     let moves = from.moves(clocks, e);

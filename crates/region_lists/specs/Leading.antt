@@ -30,6 +30,11 @@ pub record Together (n : ℕ) (list : List ℕ) (count start l m : ℕ) : Type 0
   pub all : (i : ℕ) → start ≤ i → i < m → listed-row n list i .location ≡ l
   pub next : m < count → listed-row n list m .location ≡ l → ⊥
 
+-- the rows from start to before end are those of location l
+pub record RowsIn (n : ℕ) (list : List ℕ) (count l start end : ℕ) : Type 0 where
+  pub starts : Starts n list count l start
+  pub together : Together n list count start l end
+
 -- rows of the list that are chosen ----------------------------------------------------------------------------------------------
 
 -- all rows that the edge leads to from row i pass a test

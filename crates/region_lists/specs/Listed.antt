@@ -4,6 +4,7 @@ use mathlib.Core.Path.{_≡_}
 use mathlib.Core.Bool.{true, false}
 use mathlib.Core.List.{List, map}
 use lib.ListN.{length, take, drop}
+use Rattle.automata.specs.Clocks.{at}
 use Rattle.automata.specs.Row.{Row, IsRow}
 use Rattle.automata.specs.Rows.{from}
 use Rattle.automata.specs.Checks.{belowb}
@@ -31,6 +32,7 @@ listed-rows n list count = map (listed-row n list) (from 0 count)
 pub record Listed (k : Clocks) (list : List ℕ) (count : ℕ) : Type 0 where
   pub few : Few k
   pub sized : length (bounds-of k) ≡ k .count
+  pub low : (z : ℕ) → z < k .count → at (k .bounds) z ≤ 127
   pub short : count ≤ 4096
   pub room : 4 + count * row-width (k .count) ≤ length list
   pub are-rows : (i : ℕ) → i < count → IsRow (bounds-of k) (listed-row (k .count) list i)

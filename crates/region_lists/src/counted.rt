@@ -9,6 +9,45 @@ ghost use Rattle.region_lists.specs.Listed.{listed-row};
 ghost use Rattle.region_lists.specs.Counted.{passing};
 use crate::listed::row_at;
 use edge_walk::choice::Search;
+use regions::clock_move::Move;
+
+// How many intervals a move permits, stretch by stretch.
+fn permitted_intervals(asked: Move) -> usize
+    requires { ⌜ asked .top ≤ 32767 ⌝ }
+    ensures { λ r. ⌜ r ≤ 32768 ⌝ }
+{
+    let mut total: usize = 0;
+    let mut interval = 0;
+    while interval <= asked.top {
+        let end = asked.next_stretch(interval);
+        if asked.permits(interval) {
+            total += (end - interval) as usize;
+        }
+        interval = end;
+    }
+    total
+}
+
+// Whether a way may have as many regions as a sixteenth of so many rows, so that it is cheaper to test each of the rows than to visit the way: as many
+// choices of intervals as that. Either way would be right.
+pub fn is_wide(s: Search, rows: usize) -> bool
+    requires { ⌜ Ready s ⌝ }
+    requires { ⌜ rows ≤ 4096 ⌝ }
+{
+    let n = s.clocks.count as usize;
+    let moves = s.moves;
+    let mut choices = 1;
+    let mut z = 0;
+    while z < n {
+        let asked = moves.each[z];
+        choices = choices * permitted_intervals(asked);
+        if rows < 16 * choices {
+            return true;
+        }
+        z += 1;
+    }
+    false
+}
 
 // How many of the rows from start to before end the moves allow.
 pub fn allowed_rows(list: &[u8], s: Search, start: usize, end: usize) -> usize

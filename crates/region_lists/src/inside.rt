@@ -13,7 +13,9 @@ ghost use Rattle.edge_walk.specs.Choice.{Ready};
 ghost use Rattle.edge_walk.specs.Stand.{Ahead, Standing};
 ghost use Rattle.edge_walk.specs.Visit.{AllPass, Seen};
 ghost use Rattle.region_lists.specs.Listed.{listed-rows, Listed};
+ghost use Rattle.region_lists.specs.Leading.{RowsIn};
 use crate::listed::Found;
+use crate::listed::Span;
 use crate::listed::find;
 use crate::ranked::has_all_ranked;
 use edge_walk::choice::Search;
@@ -113,13 +115,15 @@ fn all_inside(list: &[u8], count: usize, s: Search, start: Stand, hint: usize) -
     }
 }
 
-// Whether every region that an edge leads to from this one, where its guards hold, is in the list.
+// Whether every region that an edge leads to from this one, where its guards hold, is in the list. Where there may be many of them they are counted, and
+// none is visited.
 pub fn leads_inside(
     list: &[u8],
     clocks: Clocks,
     count: usize,
     e: Edge,
     from: Region,
+    into: Span,
     hint: usize,
 ) -> Found
     requires { ⌜ Listed clocks (now list) count ⌝ }
@@ -128,6 +132,7 @@ pub fn leads_inside(
     requires { ⌜ IsRow (bounds-of clocks) (row-of (clocks .count) from) ⌝ }
     requires { ⌜ from .location ≡ e .source ⌝ }
     requires { ⌜ guardsb (row-of (clocks .count) from) (edge-of (clocks .count) e .guards) ≡ true ⌝ }
+    requires { ⌜ RowsIn (clocks .count) (now list) count (e .target) (into .start) (into .end) ⌝ }
     ensures { λ r. ⌜ r .listed ≡ every (has (listed-rows (clocks .count) (now (list .entry)) count)) (edge-rows (bounds-of clocks) (edge-of (clocks .count) e) (row-of (clocks .count) from)) ⌝ }
 {
     let way = open_way(clocks, from, e);

@@ -16,10 +16,11 @@ ghost use Rattle.tables.specs.Values.{Describes};
 ghost use Rattle.region_lists.specs.Listed.{listed-rows, Listed};
 ghost use Rattle.automata.specs.Next.{by-edges};
 ghost use Rattle.region_lists.specs.RegionList.{NextListed};
-ghost use Rattle.region_lists.specs.Leading.{Starts, Together, AllSit, Walked, FromAll};
+ghost use Rattle.region_lists.specs.Leading.{Starts, Together, RowsIn, AllSit, Walked, FromAll};
 use crate::choosing::choose;
 use crate::inside::leads_inside;
 use crate::listed::Found;
+use crate::listed::Span;
 use crate::listed::find;
 use crate::listed::location_at;
 use crate::listed::row_at;
@@ -28,8 +29,10 @@ use regions::edge::Edge;
 use regions::image::is_deterministic;
 use regions::region::Clocks;
 use regions::region::Region;
+use table_records::decode::after_edge;
+use table_records::decode::edge_from;
 use table_records::head::Head;
-use tables::admission::edge_at;
+use tables::admission::first_edge;
 
 // Whether a deterministic edge leads from a region of its source into the list: it leads to one region at most, where its guards hold.
 fn leads_to_one(
@@ -97,6 +100,19 @@ fn rows_end(list: &[u8], n: usize, count: usize, start: usize, location: u8) -> 
     i
 }
 
+// Where the rows of a location stand.
+fn rows_in(list: &[u8], clocks: Clocks, count: usize, location: u8) -> Span
+    requires { ⌜ Listed clocks (now list) count ⌝ }
+    requires { ⌜ Ascends (listed-rows (clocks .count) (now list) count) ⌝ }
+    ensures { λ r. ⌜ RowsIn (clocks .count) (now (list .entry)) count location (r .start) (r .end) ⌝ }
+{
+    let start = rows_before(list, clocks, count, location);
+    Span {
+        start: start,
+        end: rows_end(list, clocks.count as usize, count, start, location),
+    }
+}
+
 // The place of a row from start to before end that lacks its next row by a deterministic edge, or 0.
 fn lacks_image(list: &[u8], clocks: Clocks, count: usize, e: Edge, start: usize, end: usize) -> u16
     requires { ⌜ Listed clocks (now list) count ⌝ }
@@ -128,12 +144,14 @@ fn lacks_from(
     clocks: Clocks,
     count: usize,
     e: Edge,
+    into: Span,
     members: &[[u32; 9]],
     size: usize,
 ) -> u16
     requires { ⌜ Listed clocks (now list) count ⌝ }
     requires { ⌜ Ascends (listed-rows (clocks .count) (now list) count) ⌝ }
     requires { ⌜ Bounded (bounds-of clocks) (edge-of (clocks .count) e) ⌝ }
+    requires { ⌜ RowsIn (clocks .count) (now list) count (e .target) (into .start) (into .end) ⌝ }
     requires { ⌜ size ≤ length (now members) ⌝ }
     requires { ⌜ AllSit (bounds-of clocks) (edge-of (clocks .count) e) (clocks .count) (now list) 0 count (now members) size ⌝ }
     ensures { λ r. ⌜ Walked (bounds-of clocks) (edge-of (clocks .count) e) (clocks .count) (now (list .entry)) count (now (members .entry)) size r ⌝ }
@@ -145,7 +163,7 @@ fn lacks_from(
         let member = members[k];
         let i = member[8] as usize;
         let row = row_at(list, n, i);
-        let found = leads_inside(list, clocks, count, e, row, hint);
+        let found = leads_inside(list, clocks, count, e, row, into, hint);
         if !found.listed {
             return (i + 1) as u16;
         }
@@ -157,11 +175,20 @@ fn lacks_from(
 
 // The place of a row from start to before end that lacks a next row by the edge, or 0. It is walked only from rows that it leads furthest from: as many as
 // there is room for are chosen at a time, and what had to be left out comes the next time.
-fn lacks_walks(list: &[u8], clocks: Clocks, count: usize, e: Edge, start: usize, end: usize) -> u16
+fn lacks_walks(
+    list: &[u8],
+    clocks: Clocks,
+    count: usize,
+    e: Edge,
+    into: Span,
+    start: usize,
+    end: usize,
+) -> u16
     requires { ⌜ Listed clocks (now list) count ⌝ }
     requires { ⌜ Ascends (listed-rows (clocks .count) (now list) count) ⌝ }
     requires { ⌜ e .«guard_count» ≤ 8 ⌝ }
     requires { ⌜ Bounded (bounds-of clocks) (edge-of (clocks .count) e) ⌝ }
+    requires { ⌜ RowsIn (clocks .count) (now list) count (e .target) (into .start) (into .end) ⌝ }
     requires { ⌜ Together (clocks .count) (now list) count start (e .source) end ⌝ }
     ensures { λ r. ⌜ FromAll (bounds-of clocks) (edge-of (clocks .count) e) (clocks .count) (now (list .entry)) count start end r ⌝ }
 {
@@ -180,7 +207,7 @@ fn lacks_walks(list: &[u8], clocks: Clocks, count: usize, e: Edge, start: usize,
             &mut taken[..],
             &mut members[..],
         );
-        let place = lacks_from(list, clocks, count, e, &members[..], chosen.size);
+        let place = lacks_from(list, clocks, count, e, into, &members[..], chosen.size);
         if place != 0 {
             return place;
         }
@@ -197,13 +224,12 @@ fn lacks_by_edge(list: &[u8], clocks: Clocks, count: usize, e: Edge) -> u16
     requires { ⌜ Bounded (bounds-of clocks) (edge-of (clocks .count) e) ⌝ }
     ensures { λ r. ⌜ NextListed (edge-rows (bounds-of clocks) (edge-of (clocks .count) e)) (listed-rows (clocks .count) (now (list .entry)) count) r ⌝ }
 {
-    let n = clocks.count as usize;
-    let start = rows_before(list, clocks, count, e.source);
-    let end = rows_end(list, n, count, start, e.source);
+    let from = rows_in(list, clocks, count, e.source);
     if is_deterministic(clocks, e) {
-        return lacks_image(list, clocks, count, e, start, end);
+        return lacks_image(list, clocks, count, e, from.start, from.end);
     }
-    lacks_walks(list, clocks, count, e, start, end)
+    let into = rows_in(list, clocks, count, e.target);
+    lacks_walks(list, clocks, count, e, into, from.start, from.end)
 }
 
 // The place of a row that lacks a next row by some edge, or 0: edge by edge, so that each is read once.
@@ -214,13 +240,16 @@ pub fn lacks_by_edges(table: &[u8], head: Head, list: &[u8], count: usize) -> u1
     ensures { λ r. ⌜ NextListed (by-edges (table-of (now (table .entry)))) (listed-rows (head .clocks .count) (now (list .entry)) count) r ⌝ }
 {
     let clocks = head.clocks;
+    let n = clocks.count;
+    let mut at = first_edge(head);
     let mut k = 0;
     while k < head.edges {
-        let e = edge_at(table, head, k);
+        let e = edge_from(table, at, n);
         let place = lacks_by_edge(list, clocks, count, e);
         if place != 0 {
             return place;
         }
+        at = after_edge(table, at, n);
         k += 1;
     }
     0

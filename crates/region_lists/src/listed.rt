@@ -137,6 +137,12 @@ pub fn rows_below(list: &[u8], clocks: Clocks, count: usize, wanted: Region, hin
     low
 }
 
+// The rows from start to before end.
+pub struct Span {
+    pub start: usize,
+    pub end: usize,
+}
+
 // Whether a region was found among the rows, and where it stands or would stand.
 pub struct Found {
     pub listed: bool,

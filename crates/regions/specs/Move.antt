@@ -47,8 +47,9 @@ fits-somewhere cmp (parts q) = some-answer cmp
 unfoldable pub permitsb : Move → ℕ → Bool
 permitsb m j = fits-somewhere (m .comparison) (rel-of m j)
 
--- the intervals from i to before k are permitted alike
+-- of the intervals from i to before k the same is known, and the top is none of them but by itself
 pub record Stretch (m : Move) (i k : ℕ) : Type 0 where
   pub after : i < k
   pub within : k ≤ m .top + 1
-  pub alike : (j : ℕ) → i ≤ j → j < k → permitsb m j ≡ permitsb m i
+  pub top-alone : i < m .top → k ≤ m .top
+  pub alike : (j : ℕ) → i ≤ j → j < k → rel-of m j ≡ rel-of m i

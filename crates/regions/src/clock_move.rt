@@ -137,9 +137,9 @@ impl Move {
         )
     }
 
-    // Where the next stretch of intervals begins: those below the reference, the one at it, those above it, and the top are permitted
-    // alike, so that one of them tells for all.
-    fn next_stretch(self, interval: u16) -> u16
+    // Where the next stretch of intervals begins: of those below the reference, of the one at it, of those above it, and of the top the same is known,
+    // so that one of them tells for all.
+    pub fn next_stretch(self, interval: u16) -> u16
         requires { ⌜ (interval ≤ self .top) × (self .top < 65535) ⌝ }
         ensures { λ r. ⌜ Stretch self interval r ⌝ }
     {

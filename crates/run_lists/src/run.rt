@@ -19,6 +19,7 @@ use crate::step::take_step;
 use table_records::head::Head;
 use table_records::record::record;
 use table_records::record::two_bytes;
+use tables::admission::edge_starts;
 use tables::admission::is_final;
 use tables::admission::open;
 use tables::answer::Answer;
@@ -38,12 +39,14 @@ fn conclude(table: &[u8], head: Head, state: State, steps: u16) -> Answer
     Answer::Accepted(steps)
 }
 
-// The steps after the header: refusals 7 and 8 as they are met, then 9, then what the steps come to.
+// The steps after the header: refusals 7 and 8 as they are met, then 9, then what the steps come to. Where the edges' records begin is found
+// before, so that a step takes as long by the last edge as by the first.
 fn check_steps(table: &[u8], head: Head, list: &[u8], scale: u16, steps: u16) -> Answer
     requires { ⌜ Describes (now table) head ⌝ }
     requires { ⌜ steps ≤ 2048 ⌝ }
     ensures { λ r. ⌜ answer-of r ≡ counted (steps-from (table-of (now (table .entry))) scale steps 1 steps (good (first (table-of (now (table .entry)))) []) (drop 6 (now (list .entry)))) ⌝ }
 {
+    let starts = edge_starts(table, head);
     let size = 8 + 4 * (head.clocks.count as usize);
     let mut state = State {
         number: 0,
@@ -58,10 +61,12 @@ fn check_steps(table: &[u8], head: Head, list: &[u8], scale: u16, steps: u16) ->
         if step.len() == 0 {
             return Answer::Refused(7, i + 1);
         }
-        if head.edges <= two_bytes(step, 2) {
+        let number = two_bytes(step, 2);
+        if head.edges <= number {
             return Answer::Refused(8, i + 1);
         }
-        state = take_step(table, head, scale, state, i + 1, step);
+        let start = starts[number as usize] as usize;
+        state = take_step(table, head, start, scale, state, i + 1, step);
         at += size;
         i += 1;
     }

@@ -12,16 +12,16 @@ ghost use Rattle.calls.specs.RunFile.{guardedb, allowed-byb, allowedb};
 ghost use Rattle.table_files.specs.Bytes.{two};
 ghost use Rattle.table_files.specs.Admission.{table-of};
 ghost use Rattle.tables.specs.Values.{Describes};
+ghost use Rattle.tables.specs.Bounds.{edge-start};
 ghost use Rattle.run_lists.specs.Step.{Names, value-in, move-of, point-of, state-of, refusal, step-by, one-more};
 use regions::comparison;
 use regions::edge::Action;
 use regions::edge::Edge;
 use regions::edge::Guard;
 use regions::edge::Update;
+use table_records::decode::edge_from;
 use table_records::head::Head;
 use table_records::record::four_bytes;
-use table_records::record::two_bytes;
-use tables::admission::edge_at;
 
 // How far the steps have led: the location and the clocks' values after the last one; or, if number is not 0, the first refusal among 10,
 // 11 and 12, with the place of its step, and then location and values say nothing.
@@ -174,10 +174,11 @@ fn step_by(n: u8, e: Edge, scale: u16, state: State, place: u16, step: &[u8]) ->
     }
 }
 
-// The state after one step more, which the bytes of its record tell. An earlier refusal stands.
+// The state after one step more, which the bytes of its record tell; start is where its edge's record begins. An earlier refusal stands.
 pub fn take_step(
     table: &[u8],
     head: Head,
+    start: usize,
     scale: u16,
     state: State,
     place: u16,
@@ -186,6 +187,7 @@ pub fn take_step(
     requires { ⌜ Describes (now table) head ⌝ }
     requires { ⌜ length (now step) ≡ 8 + 4 * head .clocks .count ⌝ }
     requires { ⌜ two (now step) 2 < head .edges ⌝ }
+    requires { ⌜ start ≡ edge-start (head .clocks .count) (head .locations) (now table) (two (now step) 2) ⌝ }
     requires { ⌜ state .location < head .locations ⌝ }
     ensures means { λ r. ⌜ state-of (head .clocks .count) r ≡ one-more (table-of (now (table .entry))) scale place (state-of (head .clocks .count) state) (move-of (head .clocks .count) (now (step .entry))) ⌝ }
     ensures inside { λ r. ⌜ r .location < head .locations ⌝ }
@@ -193,7 +195,7 @@ pub fn take_step(
     if state.number != 0 {
         return state;
     }
-    let e = edge_at(table, head, two_bytes(step, 2));
     let n = head.clocks.count;
+    let e = edge_from(table, start, n);
     step_by(n, e, scale, state, place, step)
 }

@@ -4,3 +4,4 @@ pub mod Bounds
 pub mod Described
 pub mod Opening
 pub mod Refusals
+pub mod Starts

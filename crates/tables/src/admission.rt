@@ -1,7 +1,7 @@
 // The admission of a table file.
 ghost use mathlib.Core.Path.{_≡_};
 ghost use mathlib.Core.List.{List};
-ghost use Prim.Native.Nat.{ℕ, _<_, _≤_};
+ghost use Prim.Native.Nat.{ℕ, _+_, _*_, _<_, _≤_};
 ghost use Rattle.automata.specs.Row.{Row};
 ghost use Rattle.automata.specs.Automaton.{edge, final, Admitted};
 ghost use Rattle.regions.specs.Values.{edge-of};
@@ -10,7 +10,7 @@ ghost use Rattle.automata.specs.Closed.{Closed, ExactlyOne};
 ghost use Rattle.table_files.specs.Answer.{accepted};
 ghost use Rattle.table_files.specs.Admission.{admission, table-of};
 ghost use Rattle.tables.specs.Values.{answer-of, Describes, Opens};
-ghost use Rattle.tables.specs.Bounds.{edge-start};
+ghost use Rattle.tables.specs.Bounds.{edge-start, StartsOf};
 use crate::answer::Answer;
 use crate::bounds::edges_bounded;
 use regions::edge::Edge;
@@ -66,15 +66,39 @@ pub fn is_final(file: &[u8], head: Head, location: u8) -> bool
     bytes[2] % 2 == 1
 }
 
-// Where an edge's record begins.
+// Where the first edge's record begins: after the header and the locations.
+pub fn first_edge(head: Head) -> usize
+    ensures { λ r. ⌜ r ≡ 7 + head .clocks .count + 3 * head .locations ⌝ }
+{
+    let clocks = head.clocks;
+    7 + (clocks.count as usize) + 3 * (head.locations as usize)
+}
+
+// Where each edge's record begins, two bytes an edge: found in one pass, so that whoever takes many edges looks for none of them.
+pub fn edge_starts(file: &[u8], head: Head) -> [u16; 256]
+    requires { ⌜ Describes (now file) head ⌝ }
+    ensures { λ r. ⌜ StartsOf (head .clocks .count) (head .locations) (now (file .entry)) (head .edges) r ⌝ }
+{
+    let n = head.clocks.count;
+    let mut starts = [0u16; 256];
+    let mut here = first_edge(head);
+    let mut k: u16 = 0;
+    while k < head.edges {
+        starts[k as usize] = here as u16;
+        here = after_edge(file, here, n);
+        k += 1;
+    }
+    starts
+}
+
+// Where one edge's record begins.
 fn edge_start(file: &[u8], head: Head, number: u16) -> usize
     requires { ⌜ Describes (now file) head ⌝ }
     requires { ⌜ number < head .edges ⌝ }
     ensures { λ r. ⌜ r ≡ edge-start (head .clocks .count) (head .locations) (now (file .entry)) number ⌝ }
 {
-    let clocks = head.clocks;
-    let n = clocks.count;
-    let mut at = 7 + (n as usize) + 3 * (head.locations as usize);
+    let n = head.clocks.count;
+    let mut at = first_edge(head);
     let mut i: u16 = 0;
     while i < number {
         at = after_edge(file, at, n);

@@ -8,7 +8,8 @@ use mathlib.Core.Bool.{Bool, true, false}
 use mathlib.Core.Logic.{_⊎_, inl, inr}
 use mathlib.Core.List.{List, [], _∷_, List·Memᴰ·not-nil}
 use lib.ListN.{length, getD, drop, length-append, length-replicate}
-use lib.Seq.{drop-at}
+use lib.Seq.{drop-at, getD-take}
+use Rattle.automata.specs.Clocks.{at}
 use Rattle.automata.specs.Row.{Row}
 use Rattle.automata.specs.Automaton.{Table, clocks}
 use Rattle.automata.specs.Closed.{Mem, Ascends, first-row, RowOf}
@@ -23,6 +24,8 @@ use Rattle.table_files.specs.Bytes.{RL, two}
 use Rattle.table_files.specs.Answer.{accepted, refused}
 use Rattle.table_files.specs.Reading.{Read, good, carry, require}
 use Rattle.table_files.specs.Admission.{table-of}
+use Rattle.table_files.specs.Meaning.{Limits}
+use Rattle.table_files.proofs.Laws.Admission.{admission-limits}
 use Rattle.tables.specs.Values.{Describes}
 use Rattle.table_records.specs.declared.head.Head.{Head}
 use Rattle.table_files.proofs.Laws.Reading.{parts, tested, took-record}
@@ -93,6 +96,9 @@ module _ (table list : List ℕ) (head : Head) (count : ℕ) (D : Describes tabl
   abbrev rows : List Row
   rows = listed-rows (head .clocks .count) list count
 
+  limits : Limits T
+  limits = let (k, p) = D .passes in admission-limits table k p
+
   record Ready : Type 0 where
     rest : List ℕ
     read : region-file T list ≡ good rows rest
@@ -115,6 +121,7 @@ module _ (table list : List ℕ) (head : Head) (count : ℕ) (D : Describes tabl
         listed = record {
           few = D .few;
           sized = ap length (D .bounds) ∙ sym (D .count);
+          low = λ z h. omega (arith, limits .low-bounds z (omega (arith, D .count)), ap (λ (c : List ℕ). at c z) (D .bounds), getD-take (head .clocks .count) (head .clocks .bounds) z 0 h);
           short = omega (arith, n, R .few);
           room = rw (← n, D .count) room;
           are-rows = λ i l. rw (D .bounds) (row-in i l .is-row);

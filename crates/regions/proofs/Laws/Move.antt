@@ -10,7 +10,7 @@ use lib.Dec.{eqb, leb}
 use lib.ListN.{length-take}
 use lib.Seq.{getD-take}
 use borrow.Author.Tests.{ne-eqb}
-use Rattle.automata.specs.Comparison.{answer, holds, some-answer}
+use Rattle.automata.specs.Comparison.{holds, some-answer}
 use Rattle.automata.specs.Clocks.{at}
 use Rattle.automata.specs.Row.{Row}
 use Rattle.automata.specs.Edge.{Action, keep, constant, clock, Update, BoundedBy}
@@ -35,15 +35,15 @@ module _ (m : Move) (j : ℕ) where
   abbrev pub by-partsb : Bool
   by-partsb = eqb (j + m .shift) (m .reference) && eqb (j % 2) 1
 
-  is-free : freeb ≡ true → rel-of m j ≡ free
+  pub is-free : freeb ≡ true → rel-of m j ≡ free
   unfolding relation
   is-free a = rw a
 
-  is-parts : freeb ≡ false → by-partsb ≡ true → rel-of m j ≡ parts (m .rank)
+  pub is-parts : freeb ≡ false → by-partsb ≡ true → rel-of m j ≡ parts (m .rank)
   unfolding relation
   is-parts a b = rw (a, b)
 
-  is-fixed : freeb ≡ false → by-partsb ≡ false → rel-of m j ≡ fixed (compare (j + m .shift) (m .reference))
+  pub is-fixed : freeb ≡ false → by-partsb ≡ false → rel-of m j ≡ fixed (compare (j + m .shift) (m .reference))
   unfolding relation
   is-fixed a b = rw (a, b)
 
@@ -71,13 +71,13 @@ module _ (m : Move) (j : ℕ) where
   unfolding permitsb fits-somewhere holds
   permits-fixed a b = rw (is-fixed a b)
 
-  permits-below : (j ≡ m .top → ⊥) → j + m .shift < m .reference → permitsb m j ≡ answer (m .comparison) Ordering·lt
-  unfolding permitsb fits-somewhere relation
-  permits-below n l = rw (ne-eqb j (m .top) n, ne-eqb (j + m .shift) (m .reference) (λ e. omega arith), compare-lt (j + m .shift) (m .reference) l)
+  known-below : (j ≡ m .top → ⊥) → j + m .shift < m .reference → rel-of m j ≡ fixed Ordering·lt
+  unfolding relation
+  known-below n l = rw (ne-eqb j (m .top) n, ne-eqb (j + m .shift) (m .reference) (λ e. omega arith), compare-lt (j + m .shift) (m .reference) l)
 
-  permits-above : (j ≡ m .top → ⊥) → m .reference < j + m .shift → permitsb m j ≡ answer (m .comparison) Ordering·gt
-  unfolding permitsb fits-somewhere relation
-  permits-above n l = rw (ne-eqb j (m .top) n, ne-eqb (j + m .shift) (m .reference) (λ e. omega arith), compare-gt (j + m .shift) (m .reference) l)
+  known-above : (j ≡ m .top → ⊥) → m .reference < j + m .shift → rel-of m j ≡ fixed Ordering·gt
+  unfolding relation
+  known-above n l = rw (ne-eqb j (m .top) n, ne-eqb (j + m .shift) (m .reference) (λ e. omega arith), compare-gt (j + m .shift) (m .reference) l)
 
 -- what fits at a position is permitted ------------------------------------------------------------------------------------------------
 
@@ -145,14 +145,20 @@ clock-in k z u y up down e b =
 module _ (m : Move) (i : ℕ) (low : i ≤ m .top) where
   -- the interval alone
   pub stretch-one : Stretch m i (i + 1)
-  stretch-one = record { after = omega arith; within = omega arith; alike = λ j a b. let e : j ≡ i = omega arith in ap (permitsb m) e }
+  stretch-one = record {
+    after = omega arith;
+    within = omega arith;
+    top-alone = λ h. omega arith;
+    alike = λ j a b. let e : j ≡ i = omega arith in ap (rel-of m) e;
+  }
 
   -- up to k below the reference
   pub stretch-below : (k : ℕ) → i < k → k ≤ m .top → k + m .shift ≤ m .reference → Stretch m i k
   stretch-below k a t s = record {
     after = a;
     within = omega arith;
-    alike = λ j l h. permits-below m j (λ e. omega arith) (omega arith) ∙ sym (permits-below m i (λ e. omega arith) (omega arith));
+    top-alone = λ h. omega arith;
+    alike = λ j l h. known-below m j (λ e. omega arith) (omega arith) ∙ sym (known-below m i (λ e. omega arith) (omega arith));
   }
 
   -- up to the top above it
@@ -160,5 +166,11 @@ module _ (m : Move) (i : ℕ) (low : i ≤ m .top) where
   stretch-above a s = record {
     after = a;
     within = omega arith;
-    alike = λ j l h. permits-above m j (λ e. omega arith) (omega arith) ∙ sym (permits-above m i (λ e. omega arith) (omega arith));
+    top-alone = λ h. omega arith;
+    alike = λ j l h. known-above m j (λ e. omega arith) (omega arith) ∙ sym (known-above m i (λ e. omega arith) (omega arith));
   }
+
+-- what is known alike is permitted alike
+pub stretch-permits : (m : Move) (i k : ℕ) → Stretch m i k → (j : ℕ) → i ≤ j → j < k → permitsb m j ≡ permitsb m i
+unfolding permitsb
+stretch-permits m i k s j l h = ap (fits-somewhere (m .comparison)) (s .alike j l h)

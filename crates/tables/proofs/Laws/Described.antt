@@ -77,10 +77,12 @@ module _ (file : List ℕ) (k : Head) (d : Describes file k) where
           ∙ ap (final-at file) (skip-threes l (7 + k .clocks .count))
           ∙ rw is)
 
-  -- edge i's record
-  module _ (i : ℕ) (h : i < k .edges) where
-    pub edge-stands : Stands (k .clocks .count) file (edge-start (k .clocks .count) (k .locations) file i)
-    edge-stands = stands-th _ _ (k .edges) (7 + k .clocks .count + 3 * k .locations) i h (reads-back .edges .stand)
+  -- edge i's record, at p
+  module _ (i : ℕ) (h : i < k .edges) {p : ℕ} (here : p ≡ edge-start (k .clocks .count) (k .locations) file i) where
+    pub edge-stands : Stands (k .clocks .count) file p
+    edge-stands = rw here (stands-th _ _ (k .edges) (7 + k .clocks .count + 3 * k .locations) i h (reads-back .edges .stand))
 
-    pub edge-says : edge-at (k .clocks .count) file (edge-start (k .clocks .count) (k .locations) file i) ≡ edge (table-of file) i
-    edge-says = sym (ap (λ (es : List Edge). getD es i blank) (reads-back .edges .says) ∙ value-th _ _ (k .edges) (7 + k .clocks .count + 3 * k .locations) i blank h)
+    pub edge-says : edge-at (k .clocks .count) file p ≡ edge (table-of file) i
+    edge-says =
+        ap (edge-at (k .clocks .count) file) here
+        ∙ sym (ap (λ (es : List Edge). getD es i blank) (reads-back .edges .says) ∙ value-th _ _ (k .edges) (7 + k .clocks .count + 3 * k .locations) i blank h)

@@ -23,7 +23,7 @@ all-permit-requires c κs = let s = c .before .before in
 returns : tie.Need-returns
 returns c = let s = c .before .before .before in
     let a = s .args in
-    (way-ready (a .clocks) (s .pre .0) (bounds s) (a .from) (s .pre .1 .0) (a .e) (s .pre .1 .1) _ (c .before .before .moves .ensures), (refl, way-is (a .clocks) (s .pre .0) (bounds s) (a .from) (s .pre .1 .0) (a .e) (s .pre .1 .1) _ (c .before .before .moves .ensures) _ (c .all-permit .ensures)))
+    (way-ready (a .clocks) (s .pre .0) (bounds s) (a .from) (s .pre .1 .0) (a .e) (s .pre .1 .1) _ (c .before .before .moves .ensures), (refl, (refl, way-is (a .clocks) (s .pre .0) (bounds s) (a .from) (s .pre .1 .0) (a .e) (s .pre .1 .1) _ (c .before .before .moves .ensures) _ (c .all-permit .ensures))))
 
 pub open-way-spec : {M : Type 1} → statement M
 open-way-spec = tie.close (tie.spec moves-requires cast-all-permit all-permit-requires returns)

@@ -29,7 +29,7 @@ returns-2 : tie.Need-returns-2
 returns-2 c = let s = c .before .before .before in
     let a = s .args in
     let (p, q) = and-law (eqb (a .from .location) (a .e .source)) (guardsb (row-of (a .clocks .count) (a .from)) (edge-of (a .clocks .count) (a .e) .guards)) (eqb-law (a .from .location) (a .e .source)) (λ h. h, λ h. h) .0 (sym (c .before .is-enabled .ensures) ∙ not-false _ (c .if1 .left)) in
-    (c .before .before .open-way .ensures .0, (c .before .before .open-way .ensures .1 .0, c .before .before .open-way .ensures .1 .1 p q))
+    (c .before .before .open-way .ensures .0, (c .before .before .open-way .ensures .1 .0, c .before .before .open-way .ensures .1 .1 .1 p q))
 
 pub way-by-spec : {M : Type 1} → statement M
 way-by-spec = tie.close (tie.spec open-way-requires is-enabled-requires returns returns-2)

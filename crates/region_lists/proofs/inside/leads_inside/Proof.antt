@@ -19,7 +19,7 @@ returns c = let s = c .before .before .before .before in
     let a = s .args in
     let way = c .before .before .open-way .ensures in
     visit-none (c .before .before .open-way .result) (way .0) (has (listed-rows (a .clocks .count) (now (a .list)) (a .count))) (not-true _ (c .if1 .taken))
-    ∙ (λ i. every (has (listed-rows (a .clocks .count) (now (a .list)) (a .count))) (way .1 .1 (s .pre .1 .1 .1 .1 .0) (s .pre .1 .1 .1 .1 .1) i))
+    ∙ (λ i. every (has (listed-rows (a .clocks .count) (now (a .list)) (a .count))) (way .1 .1 .1 (s .pre .1 .1 .1 .1 .0) (s .pre .1 .1 .1 .1 .1 .0) i))
 
 start-in-requires : tie.Need-start-in-requires
 start-in-requires c κs = search needs
@@ -35,7 +35,7 @@ returns-2 c = let s = c .before .before .before .before .before .before .before 
     let a = s .args in
     let way = c .before .before .before .before .before .open-way .ensures in
     visited (c .before .before .before .before .before .open-way .result) (way .0) (has (listed-rows (c .before .before .before .before .before .open-way .result .search .clocks .count) (now (a .list)) (a .count))) (not-false _ (c .before .before .before .if1 .left)) _ (rw (c .before .start-in .ensures) at (c .all-inside .ensures))
-    ∙ (λ i. every (has (listed-rows (way .1 .0 i .count) (now (a .list)) (a .count))) (way .1 .1 (s .pre .1 .1 .1 .1 .0) (s .pre .1 .1 .1 .1 .1) i))
+    ∙ (λ i. every (has (listed-rows (way .1 .0 i .count) (now (a .list)) (a .count))) (way .1 .1 .1 (s .pre .1 .1 .1 .1 .0) (s .pre .1 .1 .1 .1 .1 .0) i))
 
 pub leads-inside-spec : {M : Type 1} → statement M
 leads-inside-spec =

@@ -6,39 +6,35 @@ use borrow.Author.Needs.{needs}
 use Rattle.region_lists.proofs.leading.lacks_by_edge.Statement.{statement}
 use Rattle.region_lists.proofs.leading.lacks_by_edge.Tie as tie
 
-cast-n : tie.Need-cast-n
-cast-n c = search needs
-
-rows-before-requires : tie.Need-rows-before-requires
-rows-before-requires c κs = search needs
-
-rows-end-requires : tie.Need-rows-end-requires
-rows-end-requires c κs = search needs
+rows-in-requires : tie.Need-rows-in-requires
+rows-in-requires c κs = search needs
 
 is-deterministic-requires : tie.Need-is-deterministic-requires
 is-deterministic-requires c κs = search needs
 
 lacks-image-requires : tie.Need-lacks-image-requires
-lacks-image-requires c κs = let p = c .before .before .before .before .before .before .pre in (p .0, (p .1 .0, (p .1 .1 .0, (p .1 .1 .1, (sym (c .before .is-deterministic .ensures) ∙ c .if1 .taken, c .before .before .rows-end .ensures)))))
+lacks-image-requires c κs = let p = c .before .before .before .before .pre in (p .0, (p .1 .0, (p .1 .1 .0, (p .1 .1 .1, (sym (c .before .is-deterministic .ensures) ∙ c .if1 .taken, c .before .before .rows-in .ensures .together)))))
 
 returns : tie.Need-returns
-returns c = let a = c .before .before .before .before .before .before .before .args in let p = c .before .before .before .before .before .before .before .pre in let k = a .clocks .count in from-all k (now (a .list)) (a .count) (bounds-of (a .clocks)) (edge-of k (a .e)) _ _ (c .before .before .before .before .rows-before .ensures) (c .before .before .before .rows-end .ensures) (p .1 .0) (c .lacks-image .result) (c .lacks-image .ensures)
+returns c = let a = c .before .before .before .before .before .args in let p = c .before .before .before .before .before .pre in let k = a .clocks .count in from-all k (now (a .list)) (a .count) (bounds-of (a .clocks)) (edge-of k (a .e)) _ _ (c .before .before .before .rows-in .ensures .starts) (c .before .before .before .rows-in .ensures .together) (p .1 .0) (c .lacks-image .result) (c .lacks-image .ensures)
+
+rows-in-requires-2 : tie.Need-rows-in-requires-2
+rows-in-requires-2 c κs = search needs
 
 lacks-walks-requires : tie.Need-lacks-walks-requires
-lacks-walks-requires c κs = search needs
+lacks-walks-requires c κs = let p = c .before .before .before .before .before .pre in (p .0, (p .1 .0, (p .1 .1 .0, (p .1 .1 .1, (c .rows-in2 .ensures, c .before .before .before .rows-in .ensures .together)))))
 
 returns-2 : tie.Need-returns-2
-returns-2 c = let a = c .before .before .before .before .before .before .before .args in let p = c .before .before .before .before .before .before .before .pre in let k = a .clocks .count in from-all k (now (a .list)) (a .count) (bounds-of (a .clocks)) (edge-of k (a .e)) _ _ (c .before .before .before .before .rows-before .ensures) (c .before .before .before .rows-end .ensures) (p .1 .0) (c .lacks-walks .result) (c .lacks-walks .ensures)
+returns-2 c = let a = c .before .before .before .before .before .before .args in let p = c .before .before .before .before .before .before .pre in let k = a .clocks .count in from-all k (now (a .list)) (a .count) (bounds-of (a .clocks)) (edge-of k (a .e)) _ _ (c .before .before .before .before .rows-in .ensures .starts) (c .before .before .before .before .rows-in .ensures .together) (p .1 .0) (c .lacks-walks .result) (c .lacks-walks .ensures)
 
 pub lacks-by-edge-spec : {M : Type 1} → statement M
 lacks-by-edge-spec =
     tie.close
     (tie.spec
-    cast-n
-    rows-before-requires
-    rows-end-requires
+    rows-in-requires
     is-deterministic-requires
     lacks-image-requires
     returns
+    rows-in-requires-2
     lacks-walks-requires
     returns-2)

@@ -19,10 +19,10 @@ use Rattle.region_lists.proofs.leading.lacks_from.Statement.{statement}
 use Rattle.region_lists.proofs.leading.lacks_from.Tie as tie
 
 abbrev Inv-loop : tie.InvT-loop
-Inv-loop list clocks count e members size n hint₀ k₀ hint k = (k ≤ size) × WalkedTo (bounds-of clocks) (edge-of (clocks .count) e) (clocks .count) list count members size k
+Inv-loop list clocks count e into members size n hint₀ k₀ hint k = (k ≤ size) × WalkedTo (bounds-of clocks) (edge-of (clocks .count) e) (clocks .count) list count members size k
 
 abbrev μ-loop : tie.MeasureT-loop
-μ-loop list clocks count e members size n hint₀ k₀ hint k = size - k
+μ-loop list clocks count e into members size n hint₀ k₀ hint k = size - k
 
 cast-n : tie.Need-cast-n Inv-loop μ-loop
 cast-n c = search needs
@@ -43,25 +43,25 @@ array-read-i : tie.Need-array-read-i Inv-loop μ-loop
 array-read-i c = search needs
 
 cast-i : tie.Need-cast-i Inv-loop μ-loop
-cast-i c = let a = c .before .before .before .before .before .args in let p = c .before .before .before .before .before .pre in let k = a .clocks .count in let e = edge-of k (a .e) in let rows = listed-rows k (now (a .list)) (a .count) in let cs = bounds-of (a .clocks) in let q = p .1 .1 .1 .1 _ (c .before .loop-test .taken) in omega (arith, q .to, p .0 .short)
+cast-i c = let a = c .before .before .before .before .before .args in let p = c .before .before .before .before .before .pre in let k = a .clocks .count in let e = edge-of k (a .e) in let rows = listed-rows k (now (a .list)) (a .count) in let cs = bounds-of (a .clocks) in let q = p .1 .1 .1 .1 .1 _ (c .before .loop-test .taken) in omega (arith, q .to, p .0 .short)
 
 row-at-requires : tie.Need-row-at-requires Inv-loop μ-loop
-row-at-requires c κs = let a = c .before .before .before .before .before .args in let p = c .before .before .before .before .before .pre in let k = a .clocks .count in let e = edge-of k (a .e) in let rows = listed-rows k (now (a .list)) (a .count) in let cs = bounds-of (a .clocks) in let q = p .1 .1 .1 .1 _ (c .before .loop-test .taken) in (p .0 .few .few, row-room _ _ _ _ (p .0 .room) (q .to))
+row-at-requires c κs = let a = c .before .before .before .before .before .args in let p = c .before .before .before .before .before .pre in let k = a .clocks .count in let e = edge-of k (a .e) in let rows = listed-rows k (now (a .list)) (a .count) in let cs = bounds-of (a .clocks) in let q = p .1 .1 .1 .1 .1 _ (c .before .loop-test .taken) in (p .0 .few .few, row-room _ _ _ _ (p .0 .room) (q .to))
 
 leads-inside-requires : tie.Need-leads-inside-requires Inv-loop μ-loop
-leads-inside-requires c κs = let a = c .before .before .before .before .before .before .args in let p = c .before .before .before .before .before .before .pre in let k = a .clocks .count in let e = edge-of k (a .e) in let rows = listed-rows k (now (a .list)) (a .count) in let cs = bounds-of (a .clocks) in let q = p .1 .1 .1 .1 _ (c .before .before .loop-test .taken) in (p .0, (p .1 .0, (p .1 .1 .0, (rw (listed-again k (now (a .list)) _ _ (c .row-at .ensures)) (p .0 .are-rows _ (q .to)), (ap (λ (r : Row). r .location) (listed-again k (now (a .list)) _ _ (c .row-at .ensures)) ∙ q .located, ap (λ (r : Row). guardsb r (e .guards)) (listed-again k (now (a .list)) _ _ (c .row-at .ensures)) ∙ q .guarded)))))
+leads-inside-requires c κs = let a = c .before .before .before .before .before .before .args in let p = c .before .before .before .before .before .before .pre in let k = a .clocks .count in let e = edge-of k (a .e) in let rows = listed-rows k (now (a .list)) (a .count) in let cs = bounds-of (a .clocks) in let q = p .1 .1 .1 .1 .1 _ (c .before .before .loop-test .taken) in (p .0, (p .1 .0, (p .1 .1 .0, (rw (listed-again k (now (a .list)) _ _ (c .row-at .ensures)) (p .0 .are-rows _ (q .to)), (ap (λ (r : Row). r .location) (listed-again k (now (a .list)) _ _ (c .row-at .ensures)) ∙ q .located, (ap (λ (r : Row). guardsb r (e .guards)) (listed-again k (now (a .list)) _ _ (c .row-at .ensures)) ∙ q .guarded, p .1 .1 .1 .0))))))
 
 add-result : tie.Need-add-result Inv-loop μ-loop
-add-result c = let a = c .before .before .before .before .before .before .before .before .before .args in let p = c .before .before .before .before .before .before .before .before .before .pre in let k = a .clocks .count in let e = edge-of k (a .e) in let rows = listed-rows k (now (a .list)) (a .count) in let cs = bounds-of (a .clocks) in let q = p .1 .1 .1 .1 _ (c .before .before .before .before .before .loop-test .taken) in omega (arith, q .to, p .0 .short)
+add-result c = let a = c .before .before .before .before .before .before .before .before .before .args in let p = c .before .before .before .before .before .before .before .before .before .pre in let k = a .clocks .count in let e = edge-of k (a .e) in let rows = listed-rows k (now (a .list)) (a .count) in let cs = bounds-of (a .clocks) in let q = p .1 .1 .1 .1 .1 _ (c .before .before .before .before .before .loop-test .taken) in omega (arith, q .to, p .0 .short)
 
 cast-result : tie.Need-cast-result Inv-loop μ-loop
-cast-result c = let a = c .before .before .before .before .before .before .before .before .before .args in let p = c .before .before .before .before .before .before .before .before .before .pre in let k = a .clocks .count in let e = edge-of k (a .e) in let rows = listed-rows k (now (a .list)) (a .count) in let cs = bounds-of (a .clocks) in let q = p .1 .1 .1 .1 _ (c .before .before .before .before .before .loop-test .taken) in omega (arith, q .to, p .0 .short)
+cast-result c = let a = c .before .before .before .before .before .before .before .before .before .args in let p = c .before .before .before .before .before .before .before .before .before .pre in let k = a .clocks .count in let e = edge-of k (a .e) in let rows = listed-rows k (now (a .list)) (a .count) in let cs = bounds-of (a .clocks) in let q = p .1 .1 .1 .1 .1 _ (c .before .before .before .before .before .loop-test .taken) in omega (arith, q .to, p .0 .short)
 
 returns : tie.Need-returns Inv-loop μ-loop
-returns c = let a = c .before .before .before .before .before .before .before .before .before .args in let p = c .before .before .before .before .before .before .before .before .before .pre in let k = a .clocks .count in let e = edge-of k (a .e) in let rows = listed-rows k (now (a .list)) (a .count) in let cs = bounds-of (a .clocks) in let q = p .1 .1 .1 .1 _ (c .before .before .before .before .before .loop-test .taken) in walked-fails cs e k (now (a .list)) (a .count) 0 0 (now (a .members)) (a .size) (at (member (now (a .members)) (c .before .before .before .before .before .before .loop .k)) 8) (next-fails (edge-rows cs e) k (now (a .list)) (a .count) _ (q .to) (ap (λ (r : Row). every (has rows) (edge-rows cs e r)) (sym (listed-again k (now (a .list)) _ _ (c .before .before .before .row-at .ensures))) ∙ sym (c .before .before .leads-inside .ensures) ∙ not-true _ (c .if1 .taken)))
+returns c = let a = c .before .before .before .before .before .before .before .before .before .args in let p = c .before .before .before .before .before .before .before .before .before .pre in let k = a .clocks .count in let e = edge-of k (a .e) in let rows = listed-rows k (now (a .list)) (a .count) in let cs = bounds-of (a .clocks) in let q = p .1 .1 .1 .1 .1 _ (c .before .before .before .before .before .loop-test .taken) in walked-fails cs e k (now (a .list)) (a .count) 0 0 (now (a .members)) (a .size) (at (member (now (a .members)) (c .before .before .before .before .before .before .loop .k)) 8) (next-fails (edge-rows cs e) k (now (a .list)) (a .count) _ (q .to) (ap (λ (r : Row). every (has rows) (edge-rows cs e r)) (sym (listed-again k (now (a .list)) _ _ (c .before .before .before .row-at .ensures))) ∙ sym (c .before .before .leads-inside .ensures) ∙ not-true _ (c .if1 .taken)))
 
 add-k : tie.Need-add-k Inv-loop μ-loop
-add-k c = let p = c .before .before .before .before .before .before .before .before .before .pre in omega (arith, c .before .before .before .before .before .loop-test .taken, p .1 .1 .1 .0)
+add-k c = let p = c .before .before .before .before .before .before .before .before .before .pre in omega (arith, c .before .before .before .before .before .loop-test .taken, p .1 .1 .1 .1 .0)
 
 loop-less : tie.Need-loop-less Inv-loop μ-loop
 loop-less c = omega (arith, c .before .before .before .before .before .loop-test .taken)

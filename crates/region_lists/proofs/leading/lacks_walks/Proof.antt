@@ -11,13 +11,13 @@ use Rattle.region_lists.proofs.leading.lacks_walks.Statement.{statement
 use Rattle.region_lists.proofs.leading.lacks_walks.Tie as tie
 
 abbrev Inv-loop : tie.InvT-loop
-Inv-loop list clocks count e start end members₀ taken₀ from₀ members taken from = (length members ≡ 64) × (length taken ≡ 4096) × Turning (bounds-of clocks) (edge-of (clocks .count) e) (clocks .count) list count start end from taken
+Inv-loop list clocks count e into start end members₀ taken₀ from₀ members taken from = (length members ≡ 64) × (length taken ≡ 4096) × Turning (bounds-of clocks) (edge-of (clocks .count) e) (clocks .count) list count start end from taken
 
 abbrev μ-loop : tie.MeasureT-loop
-μ-loop list clocks count e start end members₀ taken₀ from₀ members taken from = end - from
+μ-loop list clocks count e into start end members₀ taken₀ from₀ members taken from = end - from
 
 loop-holds : tie.Need-loop-holds Inv-loop μ-loop
-loop-holds c = let a = c .before .args in let p = c .before .pre in let k = a .clocks .count in let e = edge-of k (a .e) in let rows = listed-rows k (now (a .list)) (a .count) in let cs = bounds-of (a .clocks) in (search needs, search needs, turning-begins cs e k (now (a .list)) (a .count) (a .start) (a .end) 4096 (p .1 .1 .1 .1 .from))
+loop-holds c = let a = c .before .args in let p = c .before .pre in let k = a .clocks .count in let e = edge-of k (a .e) in let rows = listed-rows k (now (a .list)) (a .count) in let cs = bounds-of (a .clocks) in (search needs, search needs, turning-begins cs e k (now (a .list)) (a .count) (a .start) (a .end) 4096 (p .1 .1 .1 .1 .1 .from))
 
 slice-aggregate-choose : tie.Need-slice-aggregate-choose Inv-loop μ-loop
 slice-aggregate-choose c = search needs
@@ -26,13 +26,13 @@ slice-aggregate-choose-2 : tie.Need-slice-aggregate-choose-2 Inv-loop μ-loop
 slice-aggregate-choose-2 c = search needs
 
 choose-requires : tie.Need-choose-requires Inv-loop μ-loop
-choose-requires c κs = let a = c .before .before .before .before .before .args in let p = c .before .before .before .before .before .pre in let k = a .clocks .count in let e = edge-of k (a .e) in let rows = listed-rows k (now (a .list)) (a .count) in let cs = bounds-of (a .clocks) in let v = c .before .before .before .loop .inv in let l = p .1 .1 .1 .1 in (p .0, (p .1 .1 .0, (p .1 .1 .1 .0, ((v .2 .within, l .within), ((λ i h g. l .all i (omega (arith, v .2 .after)) g), (search needs, search needs))))))
+choose-requires c κs = let a = c .before .before .before .before .before .args in let p = c .before .before .before .before .before .pre in let k = a .clocks .count in let e = edge-of k (a .e) in let rows = listed-rows k (now (a .list)) (a .count) in let cs = bounds-of (a .clocks) in let v = c .before .before .before .loop .inv in let l = p .1 .1 .1 .1 .1 in (p .0, (p .1 .1 .0, (p .1 .1 .1 .0, ((v .2 .within, l .within), ((λ i h g. l .all i (omega (arith, v .2 .after)) g), (search needs, search needs))))))
 
 slice-aggregate-lacks-from : tie.Need-slice-aggregate-lacks-from Inv-loop μ-loop
 slice-aggregate-lacks-from c = search needs
 
 lacks-from-requires : tie.Need-lacks-from-requires Inv-loop μ-loop
-lacks-from-requires c κs = let a = c .before .before .before .before .before .before .before .before .before .args in let p = c .before .before .before .before .before .before .before .before .before .pre in let k = a .clocks .count in let e = edge-of k (a .e) in let rows = listed-rows k (now (a .list)) (a .count) in let cs = bounds-of (a .clocks) in let v = c .before .before .before .before .before .before .before .loop .inv in let l = p .1 .1 .1 .1 in (p .0, (p .1 .0, (p .1 .1 .1 .0, (search needs, λ j h. sit-wider cs e k (now (a .list)) _ _ 0 (a .count) _ (omega arith) (l .within) (c .before .before .before .choose .ensures .sit j h)))))
+lacks-from-requires c κs = let a = c .before .before .before .before .before .before .before .before .before .args in let p = c .before .before .before .before .before .before .before .before .before .pre in let k = a .clocks .count in let e = edge-of k (a .e) in let rows = listed-rows k (now (a .list)) (a .count) in let cs = bounds-of (a .clocks) in let v = c .before .before .before .before .before .before .before .loop .inv in let l = p .1 .1 .1 .1 .1 in (p .0, (p .1 .0, (p .1 .1 .1 .0, (p .1 .1 .1 .1 .0, (search needs, λ j h. sit-wider cs e k (now (a .list)) _ _ 0 (a .count) _ (omega arith) (l .within) (c .before .before .before .choose .ensures .sit j h))))))
 
 returns : tie.Need-returns Inv-loop μ-loop
 returns c = let a = c .before .before .before .before .before .before .before .before .before .before .before .args in let p = c .before .before .before .before .before .before .before .before .before .before .before .pre in let k = a .clocks .count in let e = edge-of k (a .e) in let rows = listed-rows k (now (a .list)) (a .count) in let cs = bounds-of (a .clocks) in walked-from cs e k (now (a .list)) (a .count) (a .start) (a .end) _ _ _ (c .if1 .taken) (c .before .lacks-from .ensures)

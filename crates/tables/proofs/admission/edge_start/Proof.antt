@@ -16,26 +16,16 @@ Inv-loop file number n at₀ i₀ at i = (i ≤ number) × (at ≡ skip (after-e
 abbrev μ-loop : tie.MeasureT-loop
 μ-loop file number n at₀ i₀ at i = number - i
 
-cast-at : tie.Need-cast-at Inv-loop μ-loop
-cast-at c = search needs
-
-add-at : tie.Need-add-at Inv-loop μ-loop
-add-at c = search needs
-
-cast-at-2 : tie.Need-cast-at-2 Inv-loop μ-loop
-cast-at-2 c = search needs
-
-mul-at : tie.Need-mul-at Inv-loop μ-loop
-mul-at c = search needs
-
-add-at-2 : tie.Need-add-at-2 Inv-loop μ-loop
-add-at-2 c = search needs
+first-edge-requires : tie.Need-first-edge-requires Inv-loop μ-loop
+first-edge-requires c κs = search needs
 
 loop-holds : tie.Need-loop-holds Inv-loop μ-loop
 loop-holds c = (omega arith, skip-none _ _)
 
 after-edge-requires : tie.Need-after-edge-requires Inv-loop μ-loop
-after-edge-requires c κs = rw (c .before .loop .inv .1) (edge-stands (now (c .before .before .before .before .before .args .file)) _ (c .before .before .before .before .before .pre .0) (c .before .loop .i) (omega (arith, c .before .before .before .before .before .pre .1)))
+after-edge-requires c κs = let a = c .before .before .before .before .args in
+    let p = c .before .before .before .before .pre in
+    edge-stands (now (a .file)) _ (p .0) (c .before .loop .i) (omega (arith, p .1)) (rw (c .before .before .first-edge .ensures) at (c .before .loop .inv .1))
 
 add-i : tie.Need-add-i Inv-loop μ-loop
 add-i c = search needs
@@ -47,8 +37,8 @@ loop-again : tie.Need-loop-again Inv-loop μ-loop
 loop-again c = (omega arith, skip-one _ _ _ (c .before .before .loop .inv .1) (c .after-edge .ensures))
 
 returns : tie.Need-returns Inv-loop μ-loop
-returns c = let e : c .before .loop .i ≡ c .before .before .before .before .before .args .number = omega arith in
-    rw e at (c .before .loop .inv .1)
+returns c = let e : c .before .loop .i ≡ c .before .before .before .before .args .number = omega arith in
+    rw (e, c .before .before .first-edge .ensures) at (c .before .loop .inv .1)
 
 pub edge-start-spec : {M : Type 1} → statement M
 edge-start-spec =
@@ -56,11 +46,7 @@ edge-start-spec =
     (tie.spec
     Inv-loop
     μ-loop
-    cast-at
-    add-at
-    cast-at-2
-    mul-at
-    add-at-2
+    first-edge-requires
     loop-holds
     after-edge-requires
     add-i

@@ -4,6 +4,7 @@ use mathlib.Core.Path.{_≡_, refl, sym, _∙_}
 use Prim.Native.Nat.{_+_, _-_}
 use native.Mathlib.Omega.{arith}
 use Rattle.regions.proofs.Laws.Least.{least-here, least-none, least-leap}
+use Rattle.regions.proofs.Laws.Move.{stretch-permits}
 use borrow.Author.Needs.{needs}
 use Rattle.regions.proofs.clock_move.Move.next_permitted.Statement.{statement}
 use Rattle.regions.proofs.clock_move.Move.next_permitted.Tie as tie
@@ -30,7 +31,7 @@ loop-less : tie.Need-loop-less Inv-loop μ-loop
 loop-less c = search needs
 
 loop-again : tie.Need-loop-again Inv-loop μ-loop
-loop-again c = c .before .before .before .before .before .loop .inv ∙ least-leap _ _ _ _ (omega arith) (omega arith) (λ j l h. c .next-stretch .ensures .alike j l h ∙ sym (c .before .before .permits .ensures) ∙ c .before .if2 .left)
+loop-again c = c .before .before .before .before .before .loop .inv ∙ least-leap _ _ _ _ (omega arith) (omega arith) (λ j l h. stretch-permits _ _ _ (c .next-stretch .ensures) j l h ∙ sym (c .before .before .permits .ensures) ∙ c .before .if2 .left)
 
 returns-2 : tie.Need-returns-2 Inv-loop μ-loop
 returns-2 c = sym (c .before .before .loop .inv ∙ least-none _ _ _ (omega arith))

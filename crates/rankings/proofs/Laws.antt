@@ -1,0 +1,3 @@
+-- The laws of rankings.
+pub mod Table
+pub mod Ranking

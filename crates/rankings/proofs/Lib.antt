@@ -1,0 +1,2 @@
+-- The laws of rankings.
+pub mod Laws

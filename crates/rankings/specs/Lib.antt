@@ -1,0 +1,3 @@
+-- The rows that have the same location and intervals, by number.
+pub mod Table
+pub mod Ranking
