@@ -23,6 +23,13 @@ comparisons = length answers
 abbrev pub equal : ℕ
 equal = 2
 
+-- the ones that allow one side alone, what is below and what is above: < and >
+abbrev pub below : ℕ
+below = 0
+
+abbrev pub above : ℕ
+above = 4
+
 -- the place of an order in a row of that table: below, at, above
 abbrev pub place : Ordering → ℕ
 place Ordering·lt = 0
@@ -44,3 +51,7 @@ some-answer cmp = answer cmp Ordering·lt || answer cmp Ordering·eq || answer c
 -- whether it allows no order but "at", so that one value is asked for
 unfoldable pub at-alone : ℕ → Bool
 at-alone cmp = answer cmp Ordering·eq && not (answer cmp Ordering·lt || answer cmp Ordering·gt)
+
+-- whether it allows both sides and not "at", so that any value but one is asked for
+unfoldable pub sides-alone : ℕ → Bool
+sides-alone cmp = answer cmp Ordering·lt && answer cmp Ordering·gt && not (answer cmp Ordering·eq)

@@ -3,6 +3,7 @@
 pub mod Numbers
 pub mod Choice
 pub mod Stand
+pub mod Intervals
 pub mod Meet
 -- the first above a floor, the rows of an edge's way, the walk along it
 pub mod First

@@ -2,5 +2,6 @@
 pub mod Walk
 pub mod Choice
 pub mod Stand
+pub mod Intervals
 pub mod Way
 pub mod Visit

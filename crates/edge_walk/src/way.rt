@@ -43,7 +43,7 @@ pub fn open_way(clocks: Clocks, from: Region, e: Edge) -> Way
 }
 
 // Whether the edge can be taken from the region: it is in the source, and the guards hold there.
-fn is_enabled(clocks: Clocks, from: Region, e: Edge) -> bool
+pub fn is_enabled(clocks: Clocks, from: Region, e: Edge) -> bool
     requires { ⌜ Few clocks ⌝ }
     requires { ⌜ e .«guard_count» ≤ 8 ⌝ }
     requires { ⌜ Bounded (bounds-of clocks) (edge-of (clocks .count) e) ⌝ }

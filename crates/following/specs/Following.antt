@@ -13,10 +13,11 @@ use Rattle.automata.specs.Edge.{Bounded}
 use Rattle.automata.specs.Automaton.{Table}
 use Rattle.automata.specs.Next.{TimeSuccessor}
 use Rattle.automata.specs.Closed.{RowOf}
-use Rattle.automata.specs.Successors.{wait-rows, edge-rows}
-use Rattle.regions.specs.Values.{Few, bounds-of, row-of, edge-of}
+use Rattle.automata.specs.Successors.{held, wait-rows, edge-rows}
+use Rattle.regions.specs.Values.{Few, bounds-of, row-of, found-of, edge-of}
 use Rattle.regions.specs.declared.region.Clocks as clocks-code
 use Rattle.regions.specs.declared.region.Region.{Region}
+use Rattle.regions.specs.declared.region.Sought.{Sought}
 use Rattle.regions.specs.declared.edge.Edge as edge-code
 use Rattle.table_files.specs.Answer.{Answer, accepted, refused}
 use Rattle.calls.specs.RegionFile.{row-bytes, rows-bytes}
@@ -44,6 +45,10 @@ rows-waited k r = wait-rows (bounds-of k) (row-of (k .count) r)
 
 abbrev pub rows-led : clocks-code.Clocks → edge-code.Edge → Region → List Row
 rows-led k e r = edge-rows (bounds-of k) (edge-of (k .count) e) (row-of (k .count) r)
+
+-- the row that was found, or none
+abbrev pub row-found : ℕ → Sought → List Row
+row-found n s = held (found-of n s)
 
 -- all of the rows fit in so many bytes
 abbrev pub fits : List Row → ℕ → Bool

@@ -1,2 +1,3 @@
 // Following one region.
-pub mod follow; // following one region
+pub mod follow; // the answer, and the rows
+pub mod writing; // the rows that an edge leads to, written

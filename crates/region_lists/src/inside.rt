@@ -14,6 +14,8 @@ ghost use Rattle.edge_walk.specs.Stand.{Ahead, Standing};
 ghost use Rattle.edge_walk.specs.Visit.{AllPass, Seen};
 ghost use Rattle.region_lists.specs.Listed.{listed-rows, Listed};
 ghost use Rattle.region_lists.specs.Leading.{RowsIn};
+use crate::counted::allowed_rows;
+use crate::counted::is_wide;
 use crate::listed::Found;
 use crate::listed::Span;
 use crate::listed::find;
@@ -25,6 +27,7 @@ use edge_walk::way::open_way;
 use regions::edge::Edge;
 use regions::region::Clocks;
 use regions::region::Region;
+use way_counts::way_count::way_count;
 
 // A look at where the walk stands: whether nothing is missing, whether all that begins with the numbers chosen has been looked up, and where.
 struct Sight {
@@ -143,5 +146,12 @@ pub fn leads_inside(
         };
     }
     let search = way.search;
+    if is_wide(search, into.end - into.start) {
+        let met = allowed_rows(list, search, into.start, into.end);
+        return Found {
+            listed: met == way_count(way),
+            at: hint,
+        };
+    }
     all_inside(list, count, search, start_in(way.target), hint)
 }

@@ -1,7 +1,8 @@
 // The six comparisons: one table, which guards, run values, region moves and the order of rows all ask.
 ghost use mathlib.Core.Path.{_≡_};
+ghost use mathlib.Core.Bool.{cond};
 ghost use lib.Dec.{ltb};
-ghost use Rattle.automata.specs.Comparison.{comparisons, place, answer, holds, at-alone};
+ghost use Rattle.automata.specs.Comparison.{comparisons, below, above, place, answer, holds, at-alone};
 ghost use Prim.Native.Nat.{compare, Ordering·lt, Ordering·eq, Ordering·gt};
 
 // Rows: 0 <, 1 ≤, 2 =, 3 ≥, 4 >, 5 ≠. Columns: the answer for below, at and above.
@@ -18,6 +19,21 @@ const ANSWERS: [[bool; 3]; COMPARISONS] = [
 
 // The comparison to keep by: =.
 pub const EQUAL: u8 = 2;
+
+// Those that allow one side alone, what is below and what is above: < and >.
+pub const BELOW: u8 = 0;
+
+pub const ABOVE: u8 = 4;
+
+// The comparison that allows one side alone.
+pub fn one_side(up: bool) -> u8
+    ensures { λ r. ⌜ r ≡ cond up above below ⌝ }
+{
+    if up {
+        return ABOVE;
+    }
+    BELOW
+}
 
 // Whether a number names a comparison.
 pub fn is_comparison(number: u8) -> bool

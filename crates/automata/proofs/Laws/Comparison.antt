@@ -4,14 +4,14 @@ use native.Mathlib.Decide.{decLt}
 use native.Mathlib.Omega.{arith}
 use mathlib.Core.Path.{_≡_, refl, sym, ap, _∙_}
 use mathlib.Core.Bool.{Bool, true, false, not, _&&_, _||_, and-true, and-false, or-true}
-use mathlib.Core.Logic.{_↔_}
+use mathlib.Core.Logic.{_↔_, _⊎_, inl, inr, ⊎-elim}
 use mathlib.Core.List.{List, [], _∷_}
 use lib.ListN.{length, getD}
 use lib.Dec.{ltb}
 use borrow.Author.Tests.{lt-ltb, le-ltb}
-use Rattle.automata.specs.Comparison.{answers, comparisons, equal, place, answer, holds, some-answer, at-alone}
+use Rattle.automata.specs.Comparison.{answers, comparisons, equal, below, above, place, answer, holds, some-answer, at-alone, sides-alone}
 use Rattle.automata.specs.Checks.{every}
-use Rattle.automata.proofs.Laws.Tests.{never, and-law}
+use Rattle.automata.proofs.Laws.Tests.{never, not-law, and-law}
 use Rattle.automata.proofs.Laws.Order.{Tri, is-lt, is-eq, is-gt, tri}
 
 pub place-small : (o : Ordering) → place o < 3
@@ -53,6 +53,40 @@ equal-alone = refl
 
 pub equal-law : (x y : ℕ) → (holds equal x y ≡ true) ↔ (x ≡ y)
 equal-law = alone-law equal equal-alone
+
+-- what a comparison allows of one side alone: that side
+pub below-law : (x y : ℕ) → (holds below x y ≡ true) ↔ (x < y)
+unfolding holds answer
+below-law x y = go (tri x y)
+  where
+    go : Tri x y → (holds below x y ≡ true) ↔ (x < y)
+    go (is-lt h e) = (λ q. h, λ l. rw e)
+    go (is-eq h e) = (λ q. never (rw e at q), λ l. absurd (omega arith))
+    go (is-gt h e) = (λ q. never (rw e at q), λ l. absurd (omega arith))
+
+pub above-law : (x y : ℕ) → (holds above x y ≡ true) ↔ (y < x)
+unfolding holds answer
+above-law x y = go (tri x y)
+  where
+    go : Tri x y → (holds above x y ≡ true) ↔ (y < x)
+    go (is-lt h e) = (λ q. never (rw e at q), λ l. absurd (omega arith))
+    go (is-eq h e) = (λ q. never (rw e at q), λ l. absurd (omega arith))
+    go (is-gt h e) = (λ q. h, λ l. rw e)
+
+-- what a comparison allows that allows both sides alone
+pub sides-law : (cmp : ℕ) → sides-alone cmp ≡ true → (x y : ℕ) → (holds cmp x y ≡ true) ↔ ((x < y) ⊎ (y < x))
+unfolding holds sides-alone
+sides-law cmp alone x y = go (tri x y)
+  where
+    said : ((answer cmp Ordering·lt ≡ true) × (answer cmp Ordering·gt ≡ true)) × (answer cmp Ordering·eq ≡ false)
+    said =
+        and-law (answer cmp Ordering·lt && answer cmp Ordering·gt) (not (answer cmp Ordering·eq))
+        (and-law (answer cmp Ordering·lt) (answer cmp Ordering·gt) (λ h. h, λ h. h) (λ h. h, λ h. h)) (not-law (answer cmp Ordering·eq)) .0 alone
+
+    go : Tri x y → (answer cmp (compare x y) ≡ true) ↔ ((x < y) ⊎ (y < x))
+    go (is-lt h c) = (λ q. inl h, λ t. ap (answer cmp) c ∙ said .0 .0)
+    go (is-eq h c) = (λ q. never (sym (said .1) ∙ ap (answer cmp) (sym c) ∙ q), λ t. absurd (⊎-elim (λ l. omega arith) (λ l. omega arith) t))
+    go (is-gt h c) = (λ q. inr h, λ t. ap (answer cmp) c ∙ said .0 .1)
 
 -- comparison 5 holds just where the numbers differ
 pub not-equal-law : (x y : ℕ) → (holds 5 x y ≡ true) ↔ (x ≡ y → ⊥)

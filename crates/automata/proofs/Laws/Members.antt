@@ -109,7 +109,7 @@ Sorted R [] = Unit {0}
 Sorted {A} R (x ∷ xs) = ((y : A) → Mem y xs → R x y) × Sorted R xs
 
 module _ {A : Type 0} (R : A → A → Type 0) where
-  sorted-append : (xs ys : List A) → Sorted R xs → Sorted R ys → ((x y : A) → Mem x xs → Mem y ys → R x y) → Sorted R (xs ++ ys)
+  pub sorted-append : (xs ys : List A) → Sorted R xs → Sorted R ys → ((x y : A) → Mem x xs → Mem y ys → R x y) → Sorted R (xs ++ ys)
   sorted-append [] ys s t h = t
   sorted-append (x ∷ xs) ys s t h = (λ y m. go y (List·Memᴰ·append-cases xs m), sorted-append xs ys (s .1) t (λ x′ y m k. h x′ y (List·Memᴰ·tail m) k))
     where

@@ -69,7 +69,7 @@ module _ (w : Way) (ready : Ready (w .search)) where
   abbrev c : List ℕ
   c = bounds-of (s .clocks)
 
-  way-sorted : Sorted Below (way-rows w)
+  pub way-sorted : Sorted Below (way-rows w)
   unfolding way-rows
   way-sorted = go (w .leads)
     where

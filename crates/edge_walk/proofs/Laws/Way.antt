@@ -36,7 +36,7 @@ select-same : (p q : Row → Bool) (xs : List Row) → ((x : Row) → Mem x xs �
 select-same p q [] f = refl
 select-same p q (x ∷ xs) f = rw (f x (List·Memᴰ·head refl), select-same p q xs (λ y m. f y (List·Memᴰ·tail m)))
 
-select-none : (p : Row → Bool) (xs : List Row) → ((x : Row) → Mem x xs → p x ≡ false) → select p xs ≡ []
+pub select-none : (p : Row → Bool) (xs : List Row) → ((x : Row) → Mem x xs → p x ≡ false) → select p xs ≡ []
 select-none p [] f = refl
 select-none p (x ∷ xs) f = rw (f x (List·Memᴰ·head refl)) (select-none p xs (λ y m. f y (List·Memᴰ·tail m)))
 

@@ -26,6 +26,10 @@ use Rattle.automata.proofs.Laws.Ordered.{below-trans, below-itself, ascends-sor
 pub row-room : (s count i len : ℕ) → 4 + count * s ≤ len → i < count → 4 + i * s + s ≤ len
 row-room s count i len h l = let m : suc i * s ≤ count * s = mul-le-mul-right s l in omega (arith, suc-mul i s)
 
+-- the rows before one end before the list does
+pub rows-room : (s count end len : ℕ) → 4 + count * s ≤ len → end ≤ count → 4 + end * s ≤ len
+rows-room s count end len h l = let m : end * s ≤ count * s = mul-le-mul-right s l in omega arith
+
 -- the row that was read again
 pub listed-again : (n : ℕ) (list : List ℕ) (i : ℕ) (r : Region) → r ≡ region-of (listed-row n list i) → row-of n r ≡ listed-row n list i
 unfolding listed-row

@@ -66,7 +66,7 @@ module _ (ms : List Move) (g m : ℕ) (js ks : List ℕ) where
 -- fewer clocks ------------------------------------------------------------------------------------------------------------------------
 
 -- the tests of two lists of clocks that are alike
-allb-same : (n : ℕ) (f h : ℕ → Bool) → ((z : ℕ) → z < n → f z ≡ h z) → allb n f ≡ allb n h
+pub allb-same : (n : ℕ) (f h : ℕ → Bool) → ((z : ℕ) → z < n → f z ≡ h z) → allb n f ≡ allb n h
 unfolding allb
 allb-same zero f h e = refl
 allb-same (suc n) f h e = rw (allb-same n f h (λ z l. e z (omega arith)), e n (omega arith))

@@ -1,0 +1,146 @@
+// Writing the rows of all regions that an edge leads to. The walk chooses their intervals; the regions of the same intervals stand together, and their ranks
+// are read from a table.
+ghost use mathlib.Core.Path.{_≡_};
+ghost use mathlib.Core.Bool.{true, not, _||_};
+ghost use Prim.Native.Nat.{ℕ, _+_, _≤_, _<_};
+ghost use lib.ListN.{length};
+ghost use Rattle.automata.specs.Clocks.{at, someb};
+ghost use Rattle.regions.specs.Placing.{placed-at};
+ghost use Rattle.regions.specs.Values.{Few, row-of};
+ghost use Rattle.rankings.specs.Ranking.{InRange};
+ghost use Rattle.edge_walk.specs.Choice.{Ready};
+ghost use Rattle.edge_walk.specs.Stand.{Standing};
+ghost use Rattle.edge_walk.specs.Intervals.{Chosen};
+ghost use Rattle.edge_walk.specs.Way.{way-rows};
+ghost use Rattle.calls.specs.RegionFile.{row-width, rows-bytes};
+ghost use Rattle.following.specs.Writing.{Low, Holds, row-if, rows-allowed, rows-chosen, partedb, parted-at, Permitted};
+use edge_walk::choice::Search;
+use edge_walk::stand::Stand;
+use edge_walk::stand::start_in;
+use edge_walk::way::Way;
+use rankings::ranking::first_ranking;
+use rankings::ranking::ranked_from;
+use rankings::ranking::rankings_of;
+use regions::clock_move::Move;
+use regions::placing::Moves;
+use regions::region::Region;
+use rows::row::row_width;
+use rows::row_writer::write_row;
+
+// Writes the row of a region of n clocks if it is wanted, and tells in how many bytes.
+fn write_if(buffer: &mut [u8], n: usize, region: Region, wanted: bool) -> usize
+    requires { ⌜ n ≤ 4 ⌝ }
+    requires { ⌜ ((z : ℕ) → z < n → at (region .intervals) z < 256) ⌝ }
+    requires { ⌜ length (rows-bytes (row-if wanted (row-of n region))) ≤ length (now buffer) ⌝ }
+    ensures bytes { λ r. ⌜ r ≡ length (rows-bytes (row-if wanted (row-of n region))) ⌝ }
+    ensures rows { λ r. ⌜ Holds (row-if wanted (row-of n region)) (now (buffer .entry)) (now (buffer .exit)) ⌝ }
+{
+    if !wanted {
+        return 0;
+    }
+    write_row(buffer, n, region);
+    row_width(n)
+}
+
+// Whether the order of a clock's new value to what it is compared with is that of the fractional parts.
+fn is_parted(asked: Move, interval: u16) -> bool
+    ensures { λ r. ⌜ r ≡ partedb asked interval ⌝ }
+{
+    if interval == asked.top {
+        return false;
+    }
+    asked.is_by_parts(interval)
+}
+
+// Whether that is so for some of the first clocks. Else every ranking is allowed, since each interval is.
+fn some_parted(moves: Moves, part: Region, count: usize) -> bool
+    requires { ⌜ count ≤ 4 ⌝ }
+    ensures { λ r. ⌜ r ≡ someb count (parted-at (moves .each) part) ⌝ }
+{
+    let mut z = 0;
+    while z < count {
+        let asked = moves.each[z];
+        if is_parted(asked, part.intervals[z]) {
+            return true;
+        }
+        z += 1;
+    }
+    false
+}
+
+// Whether the moves allow a region, which has not to be asked where they allow all of its intervals.
+fn is_allowed(moves: Moves, region: Region, n: usize, parted: bool) -> bool
+    requires { ⌜ n ≤ 4 ⌝ }
+    requires { ⌜ moves .ranks ≤ 4 ⌝ }
+    ensures { λ r. ⌜ r ≡ (not parted || placed-at (moves .each) (moves .ranks) n (region .intervals) (region .ranks)) ⌝ }
+{
+    if !parted {
+        return true;
+    }
+    moves.are_placed(region, n)
+}
+
+// Writes the rows of all regions with these intervals that the moves allow, ascending, and tells in how many bytes.
+fn write_ranked(buffer: &mut [u8], search: Search, part: Region) -> usize
+    requires { ⌜ Ready search ⌝ }
+    requires { ⌜ Low (search .clocks) ⌝ }
+    requires { ⌜ InRange (search .clocks) part ⌝ }
+    requires { ⌜ Permitted search part ⌝ }
+    requires { ⌜ length (rows-bytes (rows-allowed search part)) ≤ length (now buffer) ⌝ }
+    ensures bytes { λ r. ⌜ r ≡ length (rows-bytes (rows-allowed search part)) ⌝ }
+    ensures rows { λ r. ⌜ Holds (rows-allowed search part) (now (buffer .entry)) (now (buffer .exit)) ⌝ }
+{
+    let clocks = search.clocks;
+    let moves = search.moves;
+    let n = clocks.count as usize;
+    let parted = some_parted(moves, part, n);
+    let first = first_ranking(clocks, part);
+    let count = rankings_of(clocks, part);
+    let mut at = 0;
+    let mut j = 0;
+    while j < count {
+        let region = ranked_from(clocks, part, first, j);
+        let wanted = is_allowed(moves, region, n, parted);
+        at += write_if(&mut buffer[at..], n, region, wanted);
+        j += 1;
+    }
+    at
+}
+
+// Writes those rows where a walk over the intervals has chosen all of them, and none elsewhere; tells in how many bytes.
+fn write_chosen(buffer: &mut [u8], search: Search, stand: Stand) -> usize
+    requires { ⌜ Ready search ⌝ }
+    requires { ⌜ Low (search .clocks) ⌝ }
+    requires { ⌜ Chosen search stand ⌝ }
+    requires { ⌜ length (rows-bytes (rows-chosen search stand)) ≤ length (now buffer) ⌝ }
+    ensures bytes { λ r. ⌜ r ≡ length (rows-bytes (rows-chosen search stand)) ⌝ }
+    ensures rows { λ r. ⌜ Holds (rows-chosen search stand) (now (buffer .entry)) (now (buffer .exit)) ⌝ }
+{
+    let clocks = search.clocks;
+    if stand.depth != 1 + (clocks.count as usize) {
+        return 0;
+    }
+    let part = stand.part;
+    write_ranked(buffer, search, part)
+}
+
+// Writes the rows of all regions on a way, ascending, each from the next free byte on; tells in how many bytes.
+pub fn write_all(buffer: &mut [u8], way: Way) -> usize
+    requires { ⌜ Ready (way .search) ⌝ }
+    requires { ⌜ Low (way .search .clocks) ⌝ }
+    requires { ⌜ length (rows-bytes (way-rows way)) ≤ length (now buffer) ⌝ }
+    ensures bytes { λ r. ⌜ r ≡ length (rows-bytes (way-rows way)) ⌝ }
+    ensures rows { λ r. ⌜ Holds (way-rows way) (now (buffer .entry)) (now (buffer .exit)) ⌝ }
+{
+    if !way.leads {
+        return 0;
+    }
+    let search = way.search;
+    let mut stand = start_in(way.target);
+    let mut at = 0;
+    while 0 < stand.depth {
+        at += write_chosen(&mut buffer[at..], search, stand);
+        stand = search.step_intervals(stand);
+    }
+    at
+}
