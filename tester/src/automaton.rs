@@ -37,6 +37,18 @@ impl Comparison {
         self as u8
     }
 
+    /// As a person writes it.
+    pub fn sign(self) -> &'static str {
+        match self {
+            Comparison::Less => "<",
+            Comparison::AtMost => "≤",
+            Comparison::Equal => "=",
+            Comparison::AtLeast => "≥",
+            Comparison::Greater => ">",
+            Comparison::NotEqual => "≠",
+        }
+    }
+
     /// Whether a value that stands so to the other side is in the comparison.
     pub fn holds(self, ordering: Ordering) -> bool {
         match self {
@@ -91,6 +103,23 @@ impl Term {
 }
 
 impl Update {
+    /// The new value stands in the comparison to a constant.
+    pub const fn to_constant(comparison: Comparison, constant: u8) -> Update {
+        Update::Constant {
+            comparison,
+            constant,
+        }
+    }
+
+    /// The new value stands in the comparison to the clock's old one plus the offset.
+    pub const fn to_clock(comparison: Comparison, clock: usize, offset: i16) -> Update {
+        Update::Clock {
+            comparison,
+            clock: clock as u8,
+            offset,
+        }
+    }
+
     /// None for keep, which has no comparison in the file.
     pub fn comparison(self) -> Option<Comparison> {
         match self {
@@ -98,6 +127,22 @@ impl Update {
             Update::Constant { comparison, .. } | Update::Clock { comparison, .. } => {
                 Some(comparison)
             }
+        }
+    }
+
+    /// The same with another comparison; keep, which has none, stays as it is.
+    pub fn with_comparison(self, comparison: Comparison) -> Update {
+        match self {
+            Update::Keep => Update::Keep,
+            Update::Constant { constant, .. } => Update::Constant {
+                comparison,
+                constant,
+            },
+            Update::Clock { clock, offset, .. } => Update::Clock {
+                comparison,
+                clock,
+                offset,
+            },
         }
     }
 
@@ -166,6 +211,20 @@ pub struct Automaton {
 }
 
 impl Automaton {
+    /// An automaton that begins in its location 0 and has no final one.
+    pub fn without_final(locations: usize, bounds: &[u8], edges: Vec<Edge>) -> Automaton {
+        let location = Location {
+            is_final: false,
+            is_brief: false,
+        };
+        Automaton {
+            initial: 0,
+            bounds: bounds.to_vec(),
+            locations: vec![location; locations],
+            edges,
+        }
+    }
+
     pub fn clocks(&self) -> usize {
         self.bounds.len()
     }

@@ -28,3 +28,12 @@ pub fn cpu_time() -> Duration {
     assert_eq!(status, 0, "the system has no clock of a thread");
     Duration::new(time.seconds as u64, time.nanoseconds as u32)
 }
+
+/// Processor seconds of one call, as the mean of `calls` in a row.
+pub fn mean_seconds(calls: u32, call: &mut dyn FnMut()) -> f64 {
+    let start = cpu_time();
+    for _ in 0..calls {
+        call();
+    }
+    (cpu_time() - start).as_secs_f64() / f64::from(calls)
+}

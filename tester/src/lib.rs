@@ -24,10 +24,12 @@ pub mod region;
 pub mod region_list;
 pub mod rooms;
 pub mod run;
+pub mod slow;
 pub mod stack;
 pub mod successor;
 pub mod tally;
 pub mod verdict;
+pub mod words;
 
 pub use admit::admit;
 pub use answer::{Answer, Refusal};

@@ -29,6 +29,8 @@ use regions::edge::Edge;
 use regions::image::is_deterministic;
 use regions::region::Clocks;
 use regions::region::Region;
+use skylines::sides::is_choice;
+use skylines::sides::with_sides;
 use table_records::decode::after_edge;
 use table_records::decode::edge_from;
 use table_records::head::Head;
@@ -216,6 +218,39 @@ fn lacks_walks(
     0
 }
 
+// The place of a row from start to before end that lacks a next row by the edge, or 0. Where it asks for any value but a clock's, it is taken by its sides,
+// one choice after the other: by one side it leads no further from many rows, by both from none.
+fn lacks_sides(
+    list: &[u8],
+    clocks: Clocks,
+    count: usize,
+    e: Edge,
+    into: Span,
+    start: usize,
+    end: usize,
+) -> u16
+    requires { ⌜ Listed clocks (now list) count ⌝ }
+    requires { ⌜ Ascends (listed-rows (clocks .count) (now list) count) ⌝ }
+    requires { ⌜ e .«guard_count» ≤ 8 ⌝ }
+    requires { ⌜ Bounded (bounds-of clocks) (edge-of (clocks .count) e) ⌝ }
+    requires { ⌜ RowsIn (clocks .count) (now list) count (e .target) (into .start) (into .end) ⌝ }
+    requires { ⌜ Together (clocks .count) (now list) count start (e .source) end ⌝ }
+    ensures { λ r. ⌜ FromAll (bounds-of clocks) (edge-of (clocks .count) e) (clocks .count) (now (list .entry)) count start end r ⌝ }
+{
+    let mut k: u8 = 0;
+    while k < 16 {
+        if is_choice(clocks, e, k) {
+            let side = with_sides(clocks, e, k);
+            let place = lacks_walks(list, clocks, count, side, into, start, end);
+            if place != 0 {
+                return place;
+            }
+        }
+        k += 1;
+    }
+    0
+}
+
 // The place of a row that lacks a next row by this edge, or 0. Rows ascend, so those in the edge's source location stand together.
 fn lacks_by_edge(list: &[u8], clocks: Clocks, count: usize, e: Edge) -> u16
     requires { ⌜ Listed clocks (now list) count ⌝ }
@@ -229,7 +264,7 @@ fn lacks_by_edge(list: &[u8], clocks: Clocks, count: usize, e: Edge) -> u16
         return lacks_image(list, clocks, count, e, from.start, from.end);
     }
     let into = rows_in(list, clocks, count, e.target);
-    lacks_walks(list, clocks, count, e, into, from.start, from.end)
+    lacks_sides(list, clocks, count, e, into, from.start, from.end)
 }
 
 // The place of a row that lacks a next row by some edge, or 0: edge by edge, so that each is read once.

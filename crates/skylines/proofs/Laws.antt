@@ -2,3 +2,5 @@
 pub mod NoFurther
 pub mod Reach
 pub mod Covered
+pub mod Sides
+pub mod SideTests

@@ -1,23 +1,27 @@
 //! The checker's time beside that of the rules, on the same input in the same
-//! run: `benchmark [REPETITIONS [PART]]`, to be built for release. The parts are
-//! admission, run, lists and followings; without one it is all of them.
+//! run: `benchmark [REPETITIONS [PART [WORD..]]]`, to be built for release. The parts
+//! are admission, run, lists and followings; without one it is all of them. Words choose
+//! among the cases of a part: those that have all of them in their name.
 //!
 //! The two sides take turns, and the best processor time of each counts, so that
 //! other work on the machine disturbs the ratio as little as it can.
 
+use std::cell::Cell;
 use std::hint::black_box;
+use std::process::ExitCode;
 use tzelmaruf_tester::answer::Answer;
 use tzelmaruf_tester::automaton::*;
 use tzelmaruf_tester::compare::wide;
-use tzelmaruf_tester::cpu_time::cpu_time;
-use tzelmaruf_tester::explore::closure;
+use tzelmaruf_tester::cpu_time::mean_seconds;
 use tzelmaruf_tester::follow;
 use tzelmaruf_tester::format::encode_table;
 use tzelmaruf_tester::generate::{tables, Random, Shape};
-use tzelmaruf_tester::region::{all_rows, Region};
-use tzelmaruf_tester::region_list::encode_regions;
+use tzelmaruf_tester::region::Region;
 use tzelmaruf_tester::run::{encode_run, Run, Step};
-use tzelmaruf_tester::{admit, check_regions, check_run, library};
+use tzelmaruf_tester::slow::timed::families::{set, BEFORE_NOT_EQUAL};
+use tzelmaruf_tester::slow::timed::{timed_lists, TimedList};
+use tzelmaruf_tester::slow::Pair;
+use tzelmaruf_tester::{admit, check_run, library};
 
 /// Best seconds of a call on either side.
 struct Times {
@@ -27,11 +31,29 @@ struct Times {
 
 /// Seconds of one call, as the mean of `calls` in a row. The answer has to be `expected`.
 fn seconds(calls: u32, expected: u64, call: &mut dyn FnMut() -> u64) -> f64 {
-    let start = cpu_time();
-    for _ in 0..calls {
-        assert_eq!(black_box(call()), expected);
+    mean_seconds(calls, &mut || assert_eq!(black_box(call()), expected))
+}
+
+/// What is asked for: how often each side is timed, and which cases.
+struct Plan {
+    repetitions: u32,
+    words: Vec<String>,
+    /// How many cases were asked for so far.
+    chosen: Cell<u32>,
+}
+
+impl Plan {
+    /// The effort for a case, if it is asked for.
+    fn effort(&self, name: &str, calls: u32) -> Option<Effort> {
+        let is_blank = |letter: char| letter.is_whitespace() || letter == ',';
+        let named: Vec<&str> = name.split(is_blank).collect();
+        let is_chosen = self.words.iter().all(|word| named.contains(&word.as_str()));
+        self.chosen.set(self.chosen.get() + u32::from(is_chosen));
+        is_chosen.then_some(Effort {
+            repetitions: self.repetitions,
+            calls,
+        })
     }
-    (cpu_time() - start).as_secs_f64() / f64::from(calls)
 }
 
 /// How often each side is timed, and how many short calls make one time.
@@ -57,276 +79,52 @@ fn compete(
     best
 }
 
+/// The width of the names, so that all columns stand below each other.
+const WIDTH: usize = 78;
+
 fn print(name: &str, times: &Times) {
     let Times { checker, rules } = times;
     let ratio = checker / rules;
-    println!("| {name:<58} | {checker:>11.7} | {rules:>11.7} | {ratio:>6.2} |");
+    println!("| {name:<WIDTH$} | {checker:>11.7} | {rules:>11.7} | {ratio:>6.2} |");
 }
 
-/// A list that is accepted, on both sides.
-fn time_list(name: &str, effort: Effort, automaton: &Automaton, rows: &[Region]) {
-    let mut table = encode_table(automaton);
-    let mut list = encode_regions(automaton.clocks(), rows);
-    let (same_table, same_list) = (table.clone(), list.clone());
+/// The check of a list, on both sides; the answers have to be those that the list is known to get.
+fn time_list(effort: &Effort, timed: &TimedList) {
+    let (automaton, rows) = (timed.table(), timed.listed());
+    let expected = timed.expected(&rows);
+    let mut pair = Pair::new(&automaton, &rows);
+    let same = pair.clone();
+    const RIGHT: u64 = 1;
     let times = compete(
-        &effort,
-        rows.len() as u64,
-        &mut || library::check_regions(black_box(&mut table), black_box(&mut list)).into(),
-        &mut || {
-            let answer = check_regions(black_box(&same_table), black_box(&same_list));
-            answer.least().packed().into()
-        },
+        effort,
+        RIGHT,
+        &mut || expected.permits(pair.checker()).into(),
+        &mut || (same.rules() == expected).into(),
     );
-    let clocks = automaton.clocks();
-    let edges = automaton.edges.len();
     let text = format!(
-        "{name}: {} rows, {clocks} clocks, {edges} edges",
-        rows.len()
+        "{}: {} rows, {} clocks, {} edges",
+        timed.name,
+        rows.len(),
+        automaton.clocks(),
+        automaton.edges.len()
     );
     print(&text, &times);
 }
 
-fn of_locations(count: usize, bounds: &[u8], edges: Vec<Edge>) -> Automaton {
-    let location = Location {
-        is_final: false,
-        is_brief: false,
-    };
-    Automaton {
-        initial: 0,
-        bounds: bounds.to_vec(),
-        locations: vec![location; count],
-        edges,
-    }
-}
-
-/// The comparisons of the tables that were timed before there was '≠', so that they stay as
-/// they were.
-const BEFORE_NOT_EQUAL: &[Comparison] = &[
-    Comparison::Less,
-    Comparison::AtMost,
-    Comparison::Equal,
-    Comparison::AtLeast,
-    Comparison::Greater,
-];
-
-/// 64 locations and 256 edges that mostly keep or reset two clocks.
-fn typical() -> Automaton {
-    let mut random = Random::new(30_601);
-    let bounds = [5, 2];
-    let edges = (0..256).map(|number| Edge {
-        source: (number % 64) as u8,
-        target: random.below(64) as u8,
-        guards: (0..random.below(3))
-            .map(|_| tables::guard_among(&mut random, &bounds, BEFORE_NOT_EQUAL))
-            .collect(),
-        updates: (0..2)
-            .map(|own| match random.below(8) {
-                0..=2 => Update::Keep,
-                3..=6 => set(0),
-                _ => tables::changing_update_among(&mut random, &bounds, own, BEFORE_NOT_EQUAL),
-            })
-            .collect(),
-    });
-    let edges = edges.collect();
-    of_locations(64, &bounds, edges)
-}
-
-fn set(constant: u8) -> Update {
-    Update::Constant {
-        comparison: Comparison::Equal,
-        constant,
-    }
-}
-
-/// 256 edges from one location to itself that keep, set or copy four clocks.
-fn deterministic() -> Automaton {
-    let mut random = Random::new(30_602);
-    let bounds = [3, 2, 2, 1];
-    let mut update = |own: usize| match random.below(3) {
-        0 => Update::Keep,
-        1 => set(random.below(2) as u8),
-        _ => {
-            let clock = random.below(4);
-            let least = tables::least_offset(&bounds, own, clock);
-            Update::Clock {
-                comparison: Comparison::Equal,
-                clock: clock as u8,
-                offset: least + random.below(2) as i16,
-            }
+fn time_lists(plan: &Plan) {
+    for timed in timed_lists() {
+        if let Some(effort) = plan.effort(timed.name, timed.calls) {
+            time_list(&effort, &timed);
         }
-    };
-    let edges = (0..256).map(|_| Edge {
-        source: 0,
-        target: 0,
-        guards: vec![],
-        updates: (0..4).map(&mut update).collect(),
-    });
-    let edges = edges.collect();
-    of_locations(1, &bounds, edges)
-}
-
-/// 256 edges from one location to itself, each from every row to nearly every row.
-fn worst(bounds: &[u8]) -> Automaton {
-    let mut random = Random::new(30_603);
-    let mut update = |own: usize| {
-        let (comparison, constant) = random.pick(&[
-            (Comparison::AtLeast, 0),
-            (Comparison::Greater, 0),
-            (Comparison::AtMost, bounds[own]),
-        ]);
-        Update::Constant {
-            comparison,
-            constant,
-        }
-    };
-    let edges = (0..256).map(|_| Edge {
-        source: 0,
-        target: 0,
-        guards: vec![],
-        updates: (0..bounds.len()).map(&mut update).collect(),
-    });
-    let edges = edges.collect();
-    of_locations(1, bounds, edges)
-}
-
-/// The first 16 of those edges, each with other updates.
-fn altered(bounds: &[u8], alter: impl Fn(usize, &mut Update)) -> Automaton {
-    let mut automaton = worst(bounds);
-    automaton.edges.truncate(16);
-    for edge in &mut automaton.edges {
-        for (own, update) in edge.updates.iter_mut().enumerate() {
-            alter(own, update);
-        }
-    }
-    automaton
-}
-
-/// The clock's new value stands in the comparison to its own old one plus the offset.
-fn against_itself(own: usize, comparison: Comparison, offset: i16) -> Update {
-    Update::Clock {
-        comparison,
-        clock: own as u8,
-        offset,
-    }
-}
-
-/// The last clock is kept, so that what an edge leads to differs from each row to the next.
-fn last_kept(bounds: &[u8]) -> Automaton {
-    altered(bounds, |own, update| {
-        if own + 1 == bounds.len() {
-            *update = Update::Keep;
-        }
-    })
-}
-
-/// No clock may go down, so that an edge reads all clocks and leads to many rows from each.
-fn none_down(bounds: &[u8]) -> Automaton {
-    altered(bounds, |own, update| {
-        *update = against_itself(own, Comparison::AtLeast, 0)
-    })
-}
-
-/// No clock may go up by more than one: as before, and from later rows to more of them.
-fn up_by_one(bounds: &[u8]) -> Automaton {
-    altered(bounds, |own, update| {
-        *update = against_itself(own, Comparison::AtMost, 1)
-    })
-}
-
-/// All clocks are read, but nothing that is read makes a difference.
-fn read_in_vain(bounds: &[u8]) -> Automaton {
-    altered(bounds, |own, update| {
-        *update = against_itself(own, Comparison::Less, 127)
-    })
-}
-
-/// The first two clocks are kept and the others may not go down, so that an edge leads to many rows from each, but not to all that
-/// have the same intervals.
-fn two_kept(bounds: &[u8]) -> Automaton {
-    altered(bounds, |own, update| {
-        *update = match own {
-            0 | 1 => Update::Keep,
-            _ => against_itself(own, Comparison::AtLeast, 0),
-        }
-    })
-}
-
-/// Clocks against constants and against themselves, always by '≠': an edge leads from each row to nearly
-/// all rows.
-fn all_but_one(bounds: &[u8]) -> Automaton {
-    altered(bounds, |own, update| {
-        *update = match *update {
-            Update::Constant {
-                comparison: Comparison::AtLeast,
-                ..
-            } => against_itself(own, Comparison::NotEqual, 0),
-            Update::Constant { constant, .. } => Update::Constant {
-                comparison: Comparison::NotEqual,
-                constant,
-            },
-            other => other,
-        }
-    })
-}
-
-/// No clock stays as it was: an edge leads from each row to nearly all rows, and never only to such as
-/// it leads to from another row, whatever the order in which rows are taken.
-fn all_changed(bounds: &[u8]) -> Automaton {
-    altered(bounds, |own, update| {
-        *update = against_itself(own, Comparison::NotEqual, 0)
-    })
-}
-
-/// No clock becomes what the next one was: as before, and fractional parts are compared with those of
-/// other clocks.
-fn none_alike(bounds: &[u8]) -> Automaton {
-    altered(bounds, |own, update| {
-        let next = (own + 1) % bounds.len();
-        *update = Update::Clock {
-            comparison: Comparison::NotEqual,
-            clock: next as u8,
-            offset: tables::least_offset(bounds, own, next),
-        }
-    })
-}
-
-/// The list of all rows that are reached.
-fn time_closure(name: &str, effort: Effort, automaton: &Automaton) {
-    let found = closure(automaton, 4_096);
-    let rows = found.closed_list().expect("the closure fits in a list");
-    time_list(name, effort, automaton, rows);
-}
-
-fn time_lists(repetitions: u32) {
-    let effort = |calls| Effort { repetitions, calls };
-    time_closure("typical list", effort(50), &typical());
-    let automaton = deterministic();
-    let rows = all_rows(&automaton, 4_096).expect("the rows fit in a list");
-    time_list("deterministic updates", effort(2), &automaton, &rows);
-    let (narrow, broad) = ([2, 2, 1, 1], [25, 25]);
-    for (name, automaton) in [
-        ("worst list", worst(&[18, 18])),
-        ("worst list", worst(&narrow)),
-        ("last clock kept", last_kept(&narrow)),
-        ("no clock goes down", none_down(&narrow)),
-        ("no clock goes down", none_down(&broad)),
-        ("up by one at most", up_by_one(&broad)),
-        ("read in vain", read_in_vain(&broad)),
-        ("≠ constants and clocks", all_but_one(&narrow)),
-        ("≠ constants and clocks", all_but_one(&broad)),
-        ("≠ itself", all_changed(&broad)),
-        ("≠ another clock", none_alike(&narrow)),
-    ] {
-        let rows = all_rows(&automaton, 4_096).expect("the rows fit in a list");
-        time_list(name, effort(1), &automaton, &rows);
-    }
-    for bounds in [[7, 7, 7, 7], [1, 1, 50, 2]] {
-        time_closure("two clocks kept", effort(1), &two_kept(&bounds));
     }
 }
 
 /// The largest table there is.
-fn time_admission(repetitions: u32) {
+fn time_admission(plan: &Plan) {
+    let name = "admission of the largest table";
+    let Some(effort) = plan.effort(name, 500) else {
+        return;
+    };
     let mut random = Random::new(30_604);
     let shape = Shape {
         comparisons: BEFORE_NOT_EQUAL,
@@ -341,66 +139,67 @@ fn time_admission(repetitions: u32) {
     }
     let mut table = encode_table(&largest);
     let same = table.clone();
-    let effort = Effort {
-        repetitions,
-        calls: 500,
-    };
     let times = compete(
         &effort,
         largest.records() as u64,
         &mut || library::admit(black_box(&mut table)).into(),
         &mut || admit(black_box(&same)).packed().into(),
     );
-    let name = format!("admission of the largest table, {} bytes", same.len());
-    print(&name, &times);
+    print(&format!("{name}, {} bytes", same.len()), &times);
 }
 
-/// An edge with eight guards and four free updates, taken 2,048 times.
-fn longest_run() -> (Automaton, Run) {
+/// An edge with eight guards and four free updates, so many times, of which the last is taken 2,048
+/// times.
+fn longest_run(edges: u16) -> (Automaton, Run) {
     let guard = Guard {
         clock: 0,
         comparison: Comparison::Less,
         constant: 1,
     };
-    let below_one = Update::Constant {
-        comparison: Comparison::Less,
-        constant: 1,
-    };
+    let below_one = Update::to_constant(Comparison::Less, 1);
     let looping = Edge {
         source: 0,
         target: 0,
         guards: vec![guard; GREATEST_GUARDS],
         updates: vec![below_one; 4],
     };
-    let mut automaton = of_locations(1, &[1; 4], vec![looping]);
-    automaton.locations[0].is_final = true;
+    let edges = vec![looping; edges.into()];
     let step = Step {
-        edge: 0,
+        edge: edges.len() as u16 - 1,
         delay: 3,
         values: vec![9_996, 0, 1, 9_999],
     };
+    let mut automaton = Automaton::without_final(1, &[1; 4], edges);
+    automaton.locations[0].is_final = true;
     let (scale, steps) = (10_000, vec![step; 2_048]);
     (automaton, Run { scale, steps })
 }
 
-fn time_run(repetitions: u32) {
-    let (automaton, run) = longest_run();
-    let (mut table, mut list) = (encode_table(&automaton), encode_run(&run));
+fn time_run(name: &str, effort: &Effort, automaton: &Automaton, run: &Run) {
+    let (mut table, mut list) = (encode_table(automaton), encode_run(run));
     let (same_table, same_list) = (table.clone(), list.clone());
-    let effort = Effort {
-        repetitions,
-        calls: 200,
-    };
     let times = compete(
-        &effort,
-        2_048,
+        effort,
+        run.steps.len() as u64,
         &mut || library::check_run(black_box(&mut table), black_box(&mut list)).into(),
         &mut || {
             let answer = check_run(black_box(&same_table), black_box(&same_list));
             answer.packed().into()
         },
     );
-    print("run of 2,048 steps", &times);
+    print(name, &times);
+}
+
+fn time_runs(plan: &Plan) {
+    for (name, edges) in [
+        ("run of 2,048 steps", 1),
+        ("run of 2,048 steps, always the last of 256 edges", 256),
+    ] {
+        if let Some(effort) = plan.effort(name, 200) {
+            let (automaton, run) = longest_run(edges);
+            time_run(name, &effort, &automaton, &run);
+        }
+    }
 }
 
 /// Following the only edge of a table from one row into one buffer, on both sides. Both sides count
@@ -440,25 +239,15 @@ fn of_one_edge(bounds: [u8; 4], update: impl Fn(usize) -> Update) -> Automaton {
         guards: vec![],
         updates: (0..4).map(update).collect(),
     };
-    of_locations(1, &bounds, vec![edge])
-}
-
-fn against_constant(comparison: Comparison, constant: u8) -> Update {
-    Update::Constant {
-        comparison,
-        constant,
-    }
+    Automaton::without_final(1, &bounds, vec![edge])
 }
 
 /// The clock's new value is not below the old one of the clock after it, plus the least offset.
 fn at_least_the_next(bounds: [u8; 4]) -> Automaton {
     of_one_edge(bounds, |own| {
         let next = (own + 1) % 4;
-        Update::Clock {
-            comparison: Comparison::AtLeast,
-            clock: next as u8,
-            offset: tables::least_offset(&bounds, own, next),
-        }
+        let offset = tables::least_offset(&bounds, own, next);
+        Update::to_clock(Comparison::AtLeast, next, offset)
     })
 }
 
@@ -467,82 +256,112 @@ fn at_least_the_next(bounds: [u8; 4]) -> Automaton {
 fn two_kept_of_four(bounds: [u8; 4]) -> Automaton {
     of_one_edge(bounds, |own| match own {
         0 | 1 => Update::Keep,
-        _ => against_constant(Comparison::AtLeast, 0),
+        _ => Update::to_constant(Comparison::AtLeast, 0),
     })
 }
 
 /// Keeps, a copy and a reset: one next row.
 fn one_next(bounds: [u8; 4]) -> Automaton {
     of_one_edge(bounds, |own| match own {
-        1 => Update::Clock {
-            comparison: Comparison::Equal,
-            clock: 0,
-            offset: tables::least_offset(&bounds, 1, 0),
-        },
+        1 => Update::to_clock(Comparison::Equal, 0, tables::least_offset(&bounds, 1, 0)),
         2 => set(0),
         _ => Update::Keep,
     })
 }
 
-/// Buffers of ten million bytes, filled nearly or in good part, and one that is too short for the
+/// Buffers of ten and of a hundred million bytes, filled nearly or in good part, and too short for the
 /// rows; last, many calls with a short one.
-fn time_followings(repetitions: u32) {
+fn time_followings(plan: &Plan) {
     const LONG: usize = 10_000_000;
-    let effort = |calls| Effort { repetitions, calls };
-    let free = |bounds| of_one_edge(bounds, |_| against_constant(Comparison::AtLeast, 0));
-    let all_but = |bounds| of_one_edge(bounds, |_| against_constant(Comparison::NotEqual, 4));
-    // 905,392 rows of eleven bytes
-    let bounds = [10, 8, 8, 8];
+    const LONGEST: usize = 100_000_000;
+    let free = |bounds| of_one_edge(bounds, |_| Update::to_constant(Comparison::AtLeast, 0));
+    let all_but = |bounds| of_one_edge(bounds, |_| Update::to_constant(Comparison::NotEqual, 4));
+    // 905,392 rows of eleven bytes, and 8,329,126
+    let (bounds, greater) = ([10, 8, 8, 8], [15; 4]);
+    let too_many = [127; 4];
+    let long = |name, automaton| (name, 1, LONG, automaton);
+    let longest = |name, automaton| (name, 1, LONGEST, automaton);
     let parted = Region::new(0, &[1, 3, 1, 3], &[2, 1, 3, 2]);
-    for (name, automaton) in [
-        ("every row, and they do not fit", free([127; 4])),
-        ("every row", free(bounds)),
-        ("≠ a constant", all_but(bounds)),
-        ("≥ another clock", at_least_the_next(bounds)),
-        ("two clocks kept", two_kept_of_four([9, 9, 127, 127])),
+    for (name, calls, room, automaton) in [
+        long("every row, and they do not fit", free(too_many)),
+        long("every row", free(bounds)),
+        long("≠ a constant", all_but(bounds)),
+        long("≥ another clock", at_least_the_next(bounds)),
+        long("two clocks kept", two_kept_of_four([9, 9, 127, 127])),
+        longest(
+            "long buffer, every row, and they do not fit",
+            free(too_many),
+        ),
+        longest("long buffer, every row", free(greater)),
+        ("deterministic", 100_000, 100, one_next([9; 4])),
     ] {
-        time_following(name, &effort(1), &automaton, parted, LONG);
+        if let Some(effort) = plan.effort(name, calls) {
+            time_following(name, &effort, &automaton, parted, room);
+        }
     }
-    let automaton = one_next([9; 4]);
-    time_following("deterministic", &effort(100_000), &automaton, parted, 100);
 }
 
-/// A name, and what times the part, each side so many times.
-type Part = (&'static str, fn(u32));
+/// A name, and what times the cases of the part that are asked for.
+type Part = (&'static str, fn(&Plan));
 
 const PARTS: [Part; 4] = [
     ("admission", time_admission),
-    ("run", time_run),
+    ("run", time_runs),
     ("lists", time_lists),
     ("followings", time_followings),
 ];
 
-fn main() {
-    let given: Vec<String> = std::env::args().skip(1).collect();
-    let repetitions = given
-        .first()
-        .and_then(|text| text.parse().ok())
-        .unwrap_or(3);
-    if let Some(only) = given.get(1) {
-        if PARTS.iter().all(|(name, _)| name != only) {
-            let names: Vec<&str> = PARTS.iter().map(|(name, _)| *name).collect();
-            eprintln!(
-                "benchmark: no part '{only}'; there are {}",
-                names.join(", ")
-            );
-            std::process::exit(2);
+const USAGE: &str = "usage: benchmark [REPETITIONS [PART [WORD..]]]";
+
+/// The plan and the part, if one is named, or what is wrong with the words.
+fn parse(words: &[String]) -> Result<(Plan, Option<&str>), String> {
+    let repetitions = match words.first().map(|text| (text, text.parse())) {
+        None => 3,
+        Some((_, Ok(repetitions @ 1..))) => repetitions,
+        Some((text, _)) => return Err(format!("'{text}' is no number of repetitions")),
+    };
+    let part = words.get(1).map(String::as_str);
+    let names: Vec<&str> = PARTS.iter().map(|(name, _)| *name).collect();
+    match part {
+        Some(part) if !names.contains(&part) => {
+            Err(format!("no part '{part}'; there are {}", names.join(", ")))
+        }
+        _ => {
+            let plan = Plan {
+                repetitions,
+                words: words.iter().skip(2).cloned().collect(),
+                chosen: Cell::new(0),
+            };
+            Ok((plan, part))
         }
     }
+}
+
+fn main() -> ExitCode {
+    let given: Vec<String> = std::env::args().skip(1).collect();
+    let (plan, part) = match parse(&given) {
+        Ok(parsed) => parsed,
+        Err(wrong) => {
+            eprintln!("benchmark: {wrong}\n{USAGE}");
+            return ExitCode::from(2);
+        }
+    };
+    let repetitions = plan.repetitions;
     println!("best of {repetitions}, seconds of processor time; ratio: checker to rules\n");
     let head = ["", "checker", "rules", "ratio"];
     println!(
-        "| {:<58} | {:>11} | {:>11} | {:>6} |",
+        "| {:<WIDTH$} | {:>11} | {:>11} | {:>6} |",
         head[0], head[1], head[2], head[3]
     );
     println!("|---|---:|---:|---:|");
     for (name, time) in PARTS {
-        if given.get(1).is_none_or(|only| only == name) {
-            time(repetitions);
+        if part.is_none_or(|only| only == name) {
+            time(&plan);
         }
     }
+    if plan.chosen.get() == 0 {
+        eprintln!("benchmark: no case has all of the words in its name");
+        return ExitCode::from(2);
+    }
+    ExitCode::SUCCESS
 }

@@ -114,8 +114,7 @@ module _ (ms : List Move) (g n : ℕ) (js ks : List ℕ) where
   -- the numbers past the clocks do not matter
   pub placed-first : placed-at ms g n js ks ≡ placed-at ms g n (take n js) (take n ks)
   placed-first =
-      same-test _ _ (λ (t : placed-at ms g n js ks ≡ true). t, λ (t : placed-at ms g n js ks ≡ true). t)
-      (
+      same-test _ _ (λ (t : placed-at ms g n js ks ≡ true). t, λ (t : placed-at ms g n js ks ≡ true). t) (
         placed-less ms g n n (take n js) (take n ks) js ks (omega arith) (λ z l. (at-take n js z l, at-take n ks z l)),
         placed-less ms g n n js ks (take n js) (take n ks) (omega arith) (λ z l. (sym (at-take n js z l), sym (at-take n ks z l))),
       )

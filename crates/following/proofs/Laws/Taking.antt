@@ -251,8 +251,7 @@ module _ (rows : List Row) (s : Search) (ready : Ready s) (bounds : length (s .c
           × ((b : Stand) → Advance s (λ x. (a .depth ≡ 1 + s .clocks .count) × Begun s a x) a b → ((x : Row) → Mem x left → Ahead s b x) × ((x : Row) → Ahead s b x → Mem x left))
       go true says =
           let e : a .depth ≡ 1 + s .clocks .count = says .0 refl in
-          let f : a .least ≡ 0 = T .chosen .fresh e in
-          (
+          let f : a .least ≡ 0 = T .chosen .fresh e in (
             select (λ (x : Row). not (has (rows-allowed s (a .part)) x)) (T .rest),
             taken-first s ready bounds a four e f (T .rest) (T .sorted) (T .to) (T .from),
             left-sorted s ready bounds a four e f (T .rest) (T .sorted) (T .to) (T .from),

@@ -7,20 +7,23 @@ use mathlib.Core.Path.{_≡_, refl, sym, ap, _∙_}
 use mathlib.Core.Bool.{Bool, true, false, cond}
 use mathlib.Core.Logic.{_⊎_, inl, inr}
 use mathlib.Core.List.{List, []}
-use lib.ListN.{length, set, replicate}
+use lib.ListN.{length, getD, set, replicate}
 use lib.Seq.{getD-set-same, getD-set-other}
 use Rattle.automata.specs.Clocks.{at}
 use Rattle.automata.specs.Row.{Row, IsRow}
-use Rattle.automata.specs.Edge.{Edge}
+use Rattle.automata.specs.Edge.{Edge, Bounded}
 use Rattle.automata.specs.Successors.{guardsb, edge-rows}
 use Rattle.automata.specs.Checks.{every, has}
-use Rattle.automata.proofs.Laws.Tests.{never}
+use Rattle.automata.proofs.Laws.Tests.{never, fails}
 use Rattle.skylines.specs.Reach.{ReachOf, withinb}
 use Rattle.skylines.specs.Skyline.{member, Seats}
+use Rattle.skylines.specs.Sides.{sided, is-choice}
+use Rattle.skylines.proofs.Laws.Sides.{sides-every}
 use Rattle.skylines.proofs.Laws.NoFurther.{none-further}
 use Rattle.region_lists.specs.Listed.{listed-row, listed-rows}
 use Rattle.region_lists.specs.RegionList.{NextListed}
 use Rattle.region_lists.specs.Leading.{Leads, Sits, AllSit, AllLead, Offers, taken-at, Chooses, Walked, FromAll}
+use Rattle.region_lists.proofs.Laws.Listed.{listed-length, listed-at}
 use Rattle.region_lists.proofs.Laws.NextRows.{edge-blocked}
 
 module _ (c : List ℕ) (e : Edge) (n : ℕ) (list : List ℕ) where
@@ -256,3 +259,55 @@ module _ (c : List ℕ) (e : Edge) (n : ℕ) (list : List ℕ) where
     pub walked-from : (ms : List (List ℕ)) (size place : ℕ) → (place ≡ 0 → ⊥) → Walked c e n list count ms size place → FromAll c e n list count start end place
     walked-from ms size zero z h = absurd (z refl)
     walked-from ms size (suc i) z h = h
+
+-- an edge by its sides leads from where the edge does to where the edge does
+pub sided-ends : (n : ℕ) (e : Edge) (k : ℕ) → (sided n e k .source ≡ e .source) × (sided n e k .target ≡ e .target)
+unfolding sided
+sided-ends n e k = (refl, refl)
+
+-- side by side ---------------------------------------------------------------------------------------------------------------------------
+
+module _ (c : List ℕ) (e : Edge) (n : ℕ) (list : List ℕ) (count start end : ℕ) where
+  -- by the sides of the choices before k the edge leads into the list
+  pub record SidesTo (k : ℕ) : Type 0 where
+    pub so-far : (i : ℕ) → i < k → is-choice n e i ≡ true → FromAll c (sided n e i) n list count start end 0
+
+  pub sides-begin : SidesTo 0
+  sides-begin = record { so-far = λ i l. absurd (omega arith) }
+
+  module _ (k : ℕ) (S : SidesTo k) where
+    sides-more : ((is-choice n e k ≡ true) → FromAll c (sided n e k) n list count start end 0) → SidesTo (k + 1)
+    sides-more h = record { so-far = λ i l. go i l (ℕ-discrete i k) }
+      where
+        go : (i : ℕ) → i < k + 1 → Dec (i ≡ k) → is-choice n e i ≡ true → FromAll c (sided n e i) n list count start end 0
+        go i l (yes q) = rw q h
+        go i l (no q) = S .so-far i (omega arith)
+
+    pub sides-on : FromAll c (sided n e k) n list count start end 0 → SidesTo (k + 1)
+    sides-on h = sides-more (λ t. h)
+
+    pub sides-pass : is-choice n e k ≡ false → SidesTo (k + 1)
+    sides-pass q = sides-more (λ t. never (sym q ∙ t))
+
+  module _ (sized : length c ≡ n) (few : n ≤ 4) (bounded : Bounded c e) (are-rows : (j : ℕ) → j < count → IsRow c (listed-row n list j)) where
+    abbrev in-list : Row → Bool
+    in-list = has (listed-rows n list count)
+
+    pub sides-all : end ≤ count → (k : ℕ) → SidesTo k → 16 ≤ k → FromAll c e n list count start end 0
+    sides-all within k S h j a b =
+        sides-every c e (listed-row n list j) (omega arith) (are-rows j (omega arith)) bounded in-list .1
+        (λ i l t. rw sized (S .so-far i (omega arith) (rw sized at t) j a b))
+
+    -- a row that lacks a next row by a side lacks one by the edge
+    pub sides-fail : (k : ℕ) → k < 16 → is-choice n e k ≡ true → (place : ℕ) → (place ≡ 0 → ⊥) → FromAll c (sided n e k) n list count start end place
+        → FromAll c e n list count start end place
+    sides-fail k l t zero z h = absurd (z refl)
+    sides-fail k l t (suc i) z (h, f) = (h, λ d. out (getD (listed-rows n list count) i d) (row d) (f d))
+      where
+        row : (d : Row) → IsRow c (getD (listed-rows n list count) i d)
+        row d = let m : i < count = omega (arith, listed-length n list count) in rw (listed-at n list count i d m) (are-rows i m)
+
+        out : (r : Row) → IsRow c r → every in-list (edge-rows c (sided n e k) r) ≡ false → every in-list (edge-rows c e r) ≡ false
+        out r R g =
+            fails (every in-list (edge-rows c e r)) (λ e. e, λ e. e)
+            (λ q. never (sym g ∙ rw sized at (sides-every c e r (omega arith) R bounded in-list .0 q k l (rw sized t))))

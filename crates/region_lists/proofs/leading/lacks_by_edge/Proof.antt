@@ -21,11 +21,11 @@ returns c = let a = c .before .before .before .before .before .args in let p = c
 rows-in-requires-2 : tie.Need-rows-in-requires-2
 rows-in-requires-2 c κs = search needs
 
-lacks-walks-requires : tie.Need-lacks-walks-requires
-lacks-walks-requires c κs = let p = c .before .before .before .before .before .pre in (p .0, (p .1 .0, (p .1 .1 .0, (p .1 .1 .1, (c .rows-in2 .ensures, c .before .before .before .rows-in .ensures .together)))))
+lacks-sides-requires : tie.Need-lacks-sides-requires
+lacks-sides-requires c κs = let p = c .before .before .before .before .before .pre in (p .0, (p .1 .0, (p .1 .1 .0, (p .1 .1 .1, (c .rows-in2 .ensures, c .before .before .before .rows-in .ensures .together)))))
 
 returns-2 : tie.Need-returns-2
-returns-2 c = let a = c .before .before .before .before .before .before .args in let p = c .before .before .before .before .before .before .pre in let k = a .clocks .count in from-all k (now (a .list)) (a .count) (bounds-of (a .clocks)) (edge-of k (a .e)) _ _ (c .before .before .before .before .rows-in .ensures .starts) (c .before .before .before .before .rows-in .ensures .together) (p .1 .0) (c .lacks-walks .result) (c .lacks-walks .ensures)
+returns-2 c = let a = c .before .before .before .before .before .before .args in let p = c .before .before .before .before .before .before .pre in let k = a .clocks .count in from-all k (now (a .list)) (a .count) (bounds-of (a .clocks)) (edge-of k (a .e)) _ _ (c .before .before .before .before .rows-in .ensures .starts) (c .before .before .before .before .rows-in .ensures .together) (p .1 .0) (c .lacks-sides .result) (c .lacks-sides .ensures)
 
 pub lacks-by-edge-spec : {M : Type 1} → statement M
 lacks-by-edge-spec =
@@ -36,5 +36,5 @@ lacks-by-edge-spec =
     lacks-image-requires
     returns
     rows-in-requires-2
-    lacks-walks-requires
+    lacks-sides-requires
     returns-2)

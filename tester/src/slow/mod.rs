@@ -1,0 +1,21 @@
+//! Region lists that may keep the checker busy: fixed ones for the benchmark, and
+//! a search for others.
+//!
+//! A *candidate* is a table of one edge and what its list begins with; `change`
+//! alters one thing of it, `score` times it, `search` climbs from one candidate to
+//! slower ones, and `timed` has the lists that are timed again and again.
+
+pub mod arguments;
+pub mod candidate;
+pub mod change;
+pub mod pair;
+pub mod rows;
+pub mod score;
+pub mod search;
+pub mod timed;
+
+pub use arguments::Arguments;
+pub use candidate::{Candidate, Share};
+pub use pair::Pair;
+pub use score::Score;
+pub use search::{Judge, Search};
