@@ -3,7 +3,7 @@ ghost use mathlib.Core.Path.{_≡_};
 ghost use Prim.Native.Nat.{_≤_, _<_};
 ghost use Rattle.regions.specs.Order.{numbers, shared};
 ghost use Rattle.automata.specs.Closed.{Ascends};
-ghost use Rattle.automata.specs.Checks.{same-row, belowb, has};
+ghost use Rattle.automata.specs.Checks.{belowb, has};
 ghost use Rattle.regions.specs.Values.{row-of, region-of};
 ghost use Rattle.region_lists.specs.Listed.{listed-bytes, HasRow, listed-row, listed-rows, Listed, Splits};
 ghost use Rattle.region_lists.specs.Ranked.{besideb};
@@ -62,27 +62,28 @@ fn shared_with(list: &[u8], n: usize, i: usize, wanted: Region) -> usize
     all
 }
 
+// Whether row i comes before a region, where it is known how many of their numbers are the same.
+fn comes_below(list: &[u8], n: usize, i: usize, wanted: Region, same: usize) -> bool
+    requires { ⌜ n ≤ 4 ⌝ }
+    requires { ⌜ HasRow n (now list) i ⌝ }
+    requires { ⌜ same ≡ shared (numbers (listed-row n (now list) i)) (numbers (row-of n wanted)) ⌝ }
+    ensures { λ r. ⌜ r ≡ belowb (listed-row n (now (list .entry)) i) (row-of n wanted) ⌝ }
+{
+    if 1 + 2 * n <= same {
+        return false;
+    }
+    let bytes = row_bytes(list, n, i);
+    wide(bytes[2 + same]) < wanted.number(n, same)
+}
+
 // Whether row i comes before a region.
 pub fn row_is_below(list: &[u8], n: usize, i: usize, wanted: Region) -> bool
     requires { ⌜ n ≤ 4 ⌝ }
     requires { ⌜ HasRow n (now list) i ⌝ }
     ensures { λ r. ⌜ r ≡ belowb (listed-row n (now (list .entry)) i) (row-of n wanted) ⌝ }
 {
-    let j = shared_with(list, n, i, wanted);
-    if 1 + 2 * n <= j {
-        return false;
-    }
-    let bytes = row_bytes(list, n, i);
-    wide(bytes[2 + j]) < wanted.number(n, j)
-}
-
-// Whether row i is a region's.
-fn row_is(list: &[u8], n: usize, i: usize, wanted: Region) -> bool
-    requires { ⌜ n ≤ 4 ⌝ }
-    requires { ⌜ HasRow n (now list) i ⌝ }
-    ensures { λ r. ⌜ r ≡ same-row (listed-row n (now (list .entry)) i) (row-of n wanted) ⌝ }
-{
-    shared_with(list, n, i, wanted) == 1 + 2 * n
+    let same = shared_with(list, n, i, wanted);
+    comes_below(list, n, i, wanted, same)
 }
 
 // Whether row i has a region's location and intervals, whatever its ranks.
@@ -149,23 +150,33 @@ pub struct Found {
     pub at: usize,
 }
 
-// Whether a region is among the ascending rows, looked for from a hint on.
+// Whether a region is among the ascending rows, looked for from a hint on: the search ends where it is met.
 pub fn find(list: &[u8], clocks: Clocks, count: usize, wanted: Region, hint: usize) -> Found
     requires { ⌜ Listed clocks (now list) count ⌝ }
     requires { ⌜ Ascends (listed-rows (clocks .count) (now list) count) ⌝ }
     ensures { λ r. ⌜ r .listed ≡ has (listed-rows (clocks .count) (now (list .entry)) count) (row-of (clocks .count) wanted) ⌝ }
 {
-    let i = rows_below(list, clocks, count, wanted, hint);
-    if i == count {
-        return Found {
-            listed: false,
-            at: i,
-        };
-    }
     let n = clocks.count as usize;
+    let mut low = 0;
+    let mut high = count;
+    while low < high {
+        let middle = guess(low, high, hint);
+        let same = shared_with(list, n, middle, wanted);
+        if same == 1 + 2 * n {
+            return Found {
+                listed: true,
+                at: middle,
+            };
+        }
+        if comes_below(list, n, middle, wanted, same) {
+            low = middle + 1;
+        } else {
+            high = middle;
+        }
+    }
     Found {
-        listed: row_is(list, n, i, wanted),
-        at: i,
+        listed: false,
+        at: low,
     }
 }
 

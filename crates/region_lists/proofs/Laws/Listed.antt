@@ -123,3 +123,21 @@ module _ (n : ℕ) (list : List ℕ) (count : ℕ) (w : Row) (m : ℕ) (S : Spli
       go i l q (is-lt k _) = earlier i k q
       go i l q (is-eq k _) = refutes (same-row (listed-row n list m) w) (same-row-law (listed-row n list m) w) (sym e) (rw k at q)
       go i l q (is-gt k _) = later i k l q
+
+-- a row that is met is there
+pub found-here : (n : ℕ) (list : List ℕ) (count : ℕ) (w : Row) (i : ℕ) → i < count → same-row (listed-row n list i) w ≡ true → true ≡ has (listed-rows n list count) w
+found-here n list count w i l h = sym (has-law (listed-rows n list count) w .1 (rw (same-row-law (listed-row n list i) w .0 h) at (listed-in n list count i l)))
+
+-- one that was met nowhere, nor where the search has ended, is not
+pub found-nowhere : (n : ℕ) (list : List ℕ) (count : ℕ) (w : Row) (low high : ℕ) → Searched (listed-row n list) count w low high → Ascends (listed-rows n list count) → high ≤ low
+    → (high < count → same-row (listed-row n list high) w ≡ false) → false ≡ has (listed-rows n list count) w
+found-nowhere n list count w low high S a h other = go (ℕ-discrete low count)
+  where
+    splits : Splits (listed-row n list) count w low
+    splits = searched-all (listed-row n list) count w low high S h
+
+    go : Dec (low ≡ count) → false ≡ has (listed-rows n list count) w
+    go (yes e) = all-below n list count w low splits a e
+    go (no e) =
+        let q : high ≡ low = omega (arith, S .ordered) in
+        found n list count w low splits a e false (sym (rw q at (other (omega (arith, splits .within)))))
