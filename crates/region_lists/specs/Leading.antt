@@ -89,3 +89,8 @@ Walked c e n list count ms size (suc i) = NextListed (edge-rows c e) (listed-row
 abbrev pub FromAll : List ℕ → Edge → ℕ → List ℕ → ℕ → ℕ → ℕ → ℕ → Type 0
 FromAll c e n list count lo hi zero = (j : ℕ) → lo ≤ j → j < hi → Leads c e n list (has (listed-rows n list count)) j
 FromAll c e n list count lo hi (suc i) = NextListed (edge-rows c e) (listed-rows n list count) (suc i)
+
+-- each reach that is marked is that of a row that the edge leads into the list from
+pub record Known (c : List ℕ) (e : Edge) (n : ℕ) (list : List ℕ) (count : ℕ) (ms : List (List ℕ)) (marks : List Bool) : Type 0 where
+  pub sits : (k : ℕ) → k < 64 → taken-at marks k ≡ true → Sits c e n list 0 count (member ms k)
+  pub leads : (k : ℕ) → k < 64 → taken-at marks k ≡ true → Leads c e n list (has (listed-rows n list count)) (at (member ms k) 8)

@@ -18,10 +18,9 @@ ghost use Rattle.automata.specs.Next.{by-edges};
 ghost use Rattle.region_lists.specs.RegionList.{NextListed};
 ghost use Rattle.region_lists.specs.Leading.{Starts, Together, RowsIn, AllSit, Walked, FromAll};
 use crate::choosing::choose;
+use crate::imaging::lacks_image;
 use crate::inside::leads_inside;
-use crate::listed::Found;
 use crate::listed::Span;
-use crate::listed::find;
 use crate::listed::location_at;
 use crate::listed::row_at;
 use crate::listed::rows_below;
@@ -35,41 +34,6 @@ use table_records::decode::after_edge;
 use table_records::decode::edge_from;
 use table_records::head::Head;
 use tables::admission::first_edge;
-
-// Whether a deterministic edge leads from a region of its source into the list: it leads to one region at most, where its guards hold.
-fn leads_to_one(
-    list: &[u8],
-    clocks: Clocks,
-    count: usize,
-    e: Edge,
-    from: Region,
-    hint: usize,
-) -> Found
-    requires { ⌜ Listed clocks (now list) count ⌝ }
-    requires { ⌜ Ascends (listed-rows (clocks .count) (now list) count) ⌝ }
-    requires { ⌜ e .«guard_count» ≤ 8 ⌝ }
-    requires { ⌜ Bounded (bounds-of clocks) (edge-of (clocks .count) e) ⌝ }
-    requires { ⌜ deterministic (clocks .count) (edge-of (clocks .count) e) ≡ true ⌝ }
-    requires { ⌜ IsRow (bounds-of clocks) (row-of (clocks .count) from) ⌝ }
-    requires { ⌜ from .location ≡ e .source ⌝ }
-    ensures { λ r. ⌜ r .listed ≡ every (has (listed-rows (clocks .count) (now (list .entry)) count)) (edge-rows (bounds-of clocks) (edge-of (clocks .count) e) (row-of (clocks .count) from)) ⌝ }
-{
-    if !from.guards_hold(clocks, e) {
-        return Found {
-            listed: true,
-            at: hint,
-        };
-    }
-    let next = from.image(clocks, e);
-    if !next.found {
-        return Found {
-            listed: true,
-            at: hint,
-        };
-    }
-    let region = next.region;
-    find(list, clocks, count, region, hint)
-}
 
 // How many rows are in the locations before this one: looked for by halves, since a hint past the end tells nothing.
 fn rows_before(list: &[u8], clocks: Clocks, count: usize, location: u8) -> usize
@@ -113,31 +77,6 @@ fn rows_in(list: &[u8], clocks: Clocks, count: usize, location: u8) -> Span
         start: start,
         end: rows_end(list, clocks.count as usize, count, start, location),
     }
-}
-
-// The place of a row from start to before end that lacks its next row by a deterministic edge, or 0.
-fn lacks_image(list: &[u8], clocks: Clocks, count: usize, e: Edge, start: usize, end: usize) -> u16
-    requires { ⌜ Listed clocks (now list) count ⌝ }
-    requires { ⌜ Ascends (listed-rows (clocks .count) (now list) count) ⌝ }
-    requires { ⌜ e .«guard_count» ≤ 8 ⌝ }
-    requires { ⌜ Bounded (bounds-of clocks) (edge-of (clocks .count) e) ⌝ }
-    requires { ⌜ deterministic (clocks .count) (edge-of (clocks .count) e) ≡ true ⌝ }
-    requires { ⌜ Together (clocks .count) (now list) count start (e .source) end ⌝ }
-    ensures { λ r. ⌜ FromAll (bounds-of clocks) (edge-of (clocks .count) e) (clocks .count) (now (list .entry)) count start end r ⌝ }
-{
-    let n = clocks.count as usize;
-    let mut hint = 2 * count;
-    let mut i = start;
-    while i < end {
-        let row = row_at(list, n, i);
-        let found = leads_to_one(list, clocks, count, e, row, hint);
-        if !found.listed {
-            return (i + 1) as u16;
-        }
-        hint = found.at;
-        i += 1;
-    }
-    0
 }
 
 // The place of one of the rows that were chosen which lacks a next row by the edge, or 0: it is walked from each.

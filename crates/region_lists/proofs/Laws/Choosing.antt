@@ -22,9 +22,15 @@ use Rattle.skylines.proofs.Laws.Sides.{sides-every}
 use Rattle.skylines.proofs.Laws.NoFurther.{none-further}
 use Rattle.region_lists.specs.Listed.{listed-row, listed-rows}
 use Rattle.region_lists.specs.RegionList.{NextListed}
-use Rattle.region_lists.specs.Leading.{Leads, Sits, AllSit, AllLead, Offers, taken-at, Chooses, Walked, FromAll}
+use Rattle.region_lists.specs.Leading.{Leads, Sits, AllSit, AllLead, Offers, taken-at, Chooses, Walked, FromAll, Known}
 use Rattle.region_lists.proofs.Laws.Listed.{listed-length, listed-at}
 use Rattle.region_lists.proofs.Laws.NextRows.{edge-blocked}
+
+-- at first none is taken
+none-taken : (m j : ℕ) → taken-at (replicate m false) j ≡ false
+none-taken zero j = refl
+none-taken (suc m) zero = refl
+none-taken (suc m) (suc j) = none-taken m j
 
 module _ (c : List ℕ) (e : Edge) (n : ℕ) (list : List ℕ) where
   -- reaches that sit ----------------------------------------------------------------------------------------------------------------------
@@ -33,9 +39,21 @@ module _ (c : List ℕ) (e : Edge) (n : ℕ) (list : List ℕ) where
   pub sit-wider : (lo hi lo′ hi′ : ℕ) (m : List ℕ) → lo′ ≤ lo → hi ≤ hi′ → Sits c e n list lo hi m → Sits c e n list lo′ hi′ m
   sit-wider lo hi lo′ hi′ m p q s = record { from = omega (arith, s .from); to = omega (arith, s .to); located = s .located; guarded = s .guarded; reach = s .reach }
 
+  -- the reach of a row that the edge can be taken from
+  pub sits-own : (lo hi i : ℕ) (own : List ℕ) → lo ≤ i → i < hi → listed-row n list i .location ≡ e .source → guardsb (listed-row n list i) (e .guards) ≡ true
+      → ReachOf c e (listed-row n list i) i own → Sits c e n list lo hi own
+  sits-own lo hi i own from to located guarded reach =
+      record {
+        from = omega (arith, reach .number);
+        to = omega (arith, reach .number);
+        located = ap (λ (j : ℕ). listed-row n list j .location) (reach .number) ∙ located;
+        guarded = ap (λ (j : ℕ). guardsb (listed-row n list j) (e .guards)) (reach .number) ∙ guarded;
+        reach = rw (← reach .number) at reach;
+      }
+
   module _ (lo hi : ℕ) (sized : length c ≡ n) (few : n ≤ 4) (are-rows : (j : ℕ) → j < hi → IsRow c (listed-row n list j)) where
     -- what passes from the row of a reach passes from that of a reach within it
-    further : (p : Row → Bool) (a b : List ℕ) → Sits c e n list lo hi a → Sits c e n list lo hi b → withinb n a b ≡ true → Leads c e n list p (at b 8) → Leads c e n list p (at a 8)
+    pub further : (p : Row → Bool) (a b : List ℕ) → Sits c e n list lo hi a → Sits c e n list lo hi b → withinb n a b ≡ true → Leads c e n list p (at b 8) → Leads c e n list p (at a 8)
     further p a b A B h =
         none-further c e (listed-row n list (at a 8)) (listed-row n list (at b 8)) (omega arith) (are-rows (at a 8) (A .to)) (are-rows (at b 8) (B .to)) (at a 8) (at b 8) a b (A .reach) (B .reach)
         (rw sized h) (A .located ∙ sym (B .located)) (A .guarded ∙ sym (B .guarded)) p
@@ -56,17 +74,7 @@ module _ (c : List ℕ) (e : Edge) (n : ℕ) (list : List ℕ) where
       module _ (own : List ℕ) (ms′ : List (List ℕ)) (size′ : ℕ) (seated : Bool) (S : Seats n own ms size ms′ size′ seated) (from : lo ≤ i) (to : i < hi)
           (located : listed-row n list i .location ≡ e .source) (guarded : guardsb (listed-row n list i) (e .guards) ≡ true) (reach : ReachOf c e (listed-row n list i) i own) where
         own-sits : Sits c e n list lo hi own
-        own-sits = go (at own 8) (reach .number)
-          where
-            go : (j : ℕ) → j ≡ i → Sits c e n list lo hi own
-            go j q =
-                record {
-                  from = omega (arith, reach .number);
-                  to = omega (arith, reach .number);
-                  located = ap (λ (j : ℕ). listed-row n list j .location) (reach .number) ∙ located;
-                  guarded = ap (λ (j : ℕ). guardsb (listed-row n list j) (e .guards)) (reach .number) ∙ guarded;
-                  reach = rw (← reach .number) at reach;
-                }
+        own-sits = sits-own lo hi i own from to located guarded reach
 
         sits : AllSit c e n list lo hi ms′ size′
         sits k l = go (S .none-new k l)
@@ -218,12 +226,7 @@ module _ (c : List ℕ) (e : Edge) (n : ℕ) (list : List ℕ) where
 
     pub turning-begins : (m : ℕ) → start ≤ end → Turning start (replicate m false)
     turning-begins m h =
-        record { after = omega arith; within = h; before = λ j a b. absurd (omega arith); taken = λ j a b t. never (sym (none m j) ∙ t) }
-      where
-        none : (m j : ℕ) → taken-at (replicate m false) j ≡ false
-        none zero j = refl
-        none (suc m) zero = refl
-        none (suc m) (suc j) = none m j
+        record { after = omega arith; within = h; before = λ j a b. absurd (omega arith); taken = λ j a b t. never (sym (none-taken m j) ∙ t) }
 
     module _ (from : ℕ) (ts ts′ : List Bool) (ms : List (List ℕ)) (size next : ℕ) (T : Turning from ts) (C : Chooses c e n list from end ts ts′ ms size next) where
       pub turning-on : from < end → AllLead c e n list p ms size → Turning next ts′
@@ -259,6 +262,47 @@ module _ (c : List ℕ) (e : Edge) (n : ℕ) (list : List ℕ) where
     pub walked-from : (ms : List (List ℕ)) (size place : ℕ) → (place ≡ 0 → ⊥) → Walked c e n list count ms size place → FromAll c e n list count start end place
     walked-from ms size zero z h = absurd (z refl)
     walked-from ms size (suc i) z h = h
+
+-- reaches that are kept for a deterministic edge -----------------------------------------------------------------------------------------
+
+module _ (c : List ℕ) (e : Edge) (n : ℕ) (list : List ℕ) (count : ℕ) where
+  pub known-none : (ms : List (List ℕ)) (m : ℕ) → Known c e n list count ms (replicate m false)
+  known-none ms m = record { sits = λ k l t. never (sym (none-taken m k) ∙ t); leads = λ k l t. never (sym (none-taken m k) ∙ t) }
+
+  module _ (sized : length c ≡ n) (few : n ≤ 4) (are-rows : (j : ℕ) → j < count → IsRow c (listed-row n list j)) (ms : List (List ℕ)) (marks : List Bool)
+      (K : Known c e n list count ms marks) (i : ℕ) (l : i < count) (located : listed-row n list i .location ≡ e .source)
+      (guarded : guardsb (listed-row n list i) (e .guards) ≡ true) (own : List ℕ) (reach : ReachOf c e (listed-row n list i) i own) (k : ℕ) (h : k < 64) where
+    own-known : Sits c e n list 0 count own
+    own-known = sits-own c e n list 0 count i own (omega arith) l located guarded reach
+
+    -- it lies within one of them
+    pub known-covers : taken-at marks k ≡ true → withinb n own (member ms k) ≡ true → true ≡ every (has (listed-rows n list count)) (edge-rows c e (listed-row n list i))
+    known-covers t w = sym (rw (reach .number) at (further c e n list 0 count sized few are-rows (has (listed-rows n list count)) own (member ms k) own-known (K .sits k h t) w (K .leads k h t)))
+
+    -- it takes the place of one
+    pub known-kept : length ms ≡ 64 → length marks ≡ 64 → (b : Bool) → b ≡ every (has (listed-rows n list count)) (edge-rows c e (listed-row n list i))
+        → Known c e n list count (set ms k own) (set marks k b)
+    known-kept long long′ b q = record { sits = λ j g t. sits j g t (ℕ-discrete j k); leads = λ j g t. leads j g t (ℕ-discrete j k) }
+      where
+        here : member (set ms k own) k ≡ own
+        here = getD-set-same ms k own [] (omega arith)
+
+        other : (j : ℕ) → (j ≡ k → ⊥) → member (set ms k own) j ≡ member ms j
+        other j z = getD-set-other ms k j own [] z
+
+        mark : taken-at (set marks k b) k ≡ b
+        mark = getD-set-same marks k b false (omega arith)
+
+        unmarked : (j : ℕ) → (j ≡ k → ⊥) → taken-at (set marks k b) j ≡ taken-at marks j
+        unmarked j z = getD-set-other marks k j b false z
+
+        sits : (j : ℕ) → j < 64 → taken-at (set marks k b) j ≡ true → Dec (j ≡ k) → Sits c e n list 0 count (member (set ms k own) j)
+        sits j g t (yes z) = rw (z, here) own-known
+        sits j g t (no z) = rw (other j z) (K .sits j g (sym (unmarked j z) ∙ t))
+
+        leads : (j : ℕ) → j < 64 → taken-at (set marks k b) j ≡ true → Dec (j ≡ k) → Leads c e n list (has (listed-rows n list count)) (at (member (set ms k own) j) 8)
+        leads j g t (yes z) = rw (z, here, reach .number) (sym q ∙ sym mark ∙ ap (taken-at (set marks k b)) (sym z) ∙ t)
+        leads j g t (no z) = rw (other j z) (K .leads j g (sym (unmarked j z) ∙ t))
 
 -- an edge by its sides leads from where the edge does to where the edge does
 pub sided-ends : (n : ℕ) (e : Edge) (k : ℕ) → (sided n e k .source ≡ e .source) × (sided n e k .target ≡ e .target)

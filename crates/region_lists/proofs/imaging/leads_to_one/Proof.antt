@@ -7,8 +7,8 @@ use borrow.Author.Tests.{not-true, not-false}
 use mathlib.Core.Path.{sym, _∙_}
 use denote.Ref.{now}
 use borrow.Author.Needs.{needs}
-use Rattle.region_lists.proofs.leading.leads_to_one.Statement.{statement}
-use Rattle.region_lists.proofs.leading.leads_to_one.Tie as tie
+use Rattle.region_lists.proofs.imaging.leads_to_one.Statement.{statement}
+use Rattle.region_lists.proofs.imaging.leads_to_one.Tie as tie
 
 guards-hold-requires : tie.Need-guards-hold-requires
 guards-hold-requires c κs = let p = c .before .pre in (p .0 .few, (p .1 .1 .0, p .1 .1 .1 .0 .guards-in))
