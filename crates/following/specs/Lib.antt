@@ -1,3 +1,4 @@
 -- What the answers of following stand for.
 pub mod Following
 pub mod Writing
+pub mod Memo

@@ -5,12 +5,11 @@ use mathlib.Core.Bool.{Bool, true, cond, not, _&&_}
 use mathlib.Core.List.{List, [], _∷_, _++_}
 use lib.ListN.{length, getD, drop}
 use lib.Dec.{eqb}
-use Rattle.automata.specs.Clocks.{at, someb}
+use Rattle.automata.specs.Clocks.{at}
 use Rattle.automata.specs.Row.{Row}
 use Rattle.automata.specs.Rows.{select}
 use Rattle.regions.specs.Move.{permitsb}
 use Rattle.regions.specs.Placing.{still}
-use Rattle.regions.specs.Values.{row-of}
 use Rattle.regions.specs.declared.clock_move.Move.{Move}
 use Rattle.regions.specs.declared.region.Clocks as clocks-code
 use Rattle.regions.specs.declared.region.Region.{Region}

@@ -1,26 +1,29 @@
 // Writing the rows of all regions that an edge leads to. The walk chooses their intervals; the regions of the same intervals stand together, and their ranks
 // are read from a table.
 ghost use mathlib.Core.Path.{_≡_};
-ghost use mathlib.Core.Bool.{true, not, _||_};
+ghost use mathlib.Core.Bool.{true, false};
 ghost use Prim.Native.Nat.{ℕ, _+_, _≤_, _<_};
 ghost use lib.ListN.{length};
-ghost use Rattle.automata.specs.Clocks.{at, someb};
+ghost use Rattle.automata.specs.Clocks.{at, one-if};
 ghost use Rattle.regions.specs.Placing.{placed-at};
-ghost use Rattle.regions.specs.Values.{Few, row-of};
-ghost use Rattle.rankings.specs.Ranking.{InRange};
+ghost use Rattle.regions.specs.Values.{row-of};
+ghost use Rattle.rankings.specs.Ranking.{InRange, pattern};
+ghost use Rattle.rankings.specs.Table.{table};
 ghost use Rattle.edge_walk.specs.Choice.{Ready};
-ghost use Rattle.edge_walk.specs.Stand.{Standing};
 ghost use Rattle.edge_walk.specs.Intervals.{Chosen};
 ghost use Rattle.edge_walk.specs.Way.{way-rows};
-ghost use Rattle.calls.specs.RegionFile.{row-width, rows-bytes};
+ghost use Rattle.calls.specs.RegionFile.{rows-bytes};
 ghost use Rattle.following.specs.Writing.{Low, Holds, row-if, rows-allowed, rows-chosen, partedb, parted-at, Permitted};
+ghost use Rattle.following.specs.Memo.{marked, Kept};
 use edge_walk::choice::Search;
 use edge_walk::stand::Stand;
 use edge_walk::stand::start_in;
 use edge_walk::way::Way;
+use rankings::ranking::all_rankings;
 use rankings::ranking::first_ranking;
 use rankings::ranking::ranked_from;
 use rankings::ranking::rankings_of;
+use rankings::ranking::weight_if;
 use regions::clock_move::Move;
 use regions::placing::Moves;
 use regions::region::Region;
@@ -52,55 +55,95 @@ fn is_parted(asked: Move, interval: u16) -> bool
     asked.is_by_parts(interval)
 }
 
-// Whether that is so for some of the first clocks. Else every ranking is allowed, since each interval is.
-fn some_parted(moves: Moves, part: Region, count: usize) -> bool
+// The number of the choice of clocks of which that is so. Where it is 0, every ranking is allowed, since each interval is.
+fn parted_pattern(moves: Moves, part: Region, count: usize) -> usize
     requires { ⌜ count ≤ 4 ⌝ }
-    ensures { λ r. ⌜ r ≡ someb count (parted-at (moves .each) part) ⌝ }
+    ensures { λ r. ⌜ r ≡ pattern (parted-at (moves .each) part) count ⌝ }
 {
+    let mut sum = 0;
     let mut z = 0;
     while z < count {
         let asked = moves.each[z];
-        if is_parted(asked, part.intervals[z]) {
-            return true;
-        }
+        sum += weight_if(is_parted(asked, part.intervals[z]), z);
         z += 1;
     }
-    false
+    sum
 }
 
-// Whether the moves allow a region, which has not to be asked where they allow all of its intervals.
-fn is_allowed(moves: Moves, region: Region, n: usize, parted: bool) -> bool
+// How an answer is remembered; 0 is none.
+fn mark(allowed: bool) -> u8
+    ensures { λ r. ⌜ r ≡ 1 + one-if allowed ⌝ }
+{
+    if !allowed {
+        return 1;
+    }
+    2
+}
+
+// Whether the moves allow a region. The answer turns on its ranks and on the clocks that go by the fractional parts, and on nothing else of its intervals,
+// so it is worked out once for all of those and remembered at their place.
+fn is_allowed(
+    memo: &mut [u8],
+    place: usize,
+    parts: usize,
+    moves: Moves,
+    region: Region,
+    n: usize,
+) -> bool
     requires { ⌜ n ≤ 4 ⌝ }
     requires { ⌜ moves .ranks ≤ 4 ⌝ }
-    ensures { λ r. ⌜ r ≡ (not parted || placed-at (moves .each) (moves .ranks) n (region .intervals) (region .ranks)) ⌝ }
+    requires { ⌜ place < length (now memo) ⌝ }
+    requires { ⌜ (parts ≡ 0 → placed-at (moves .each) (moves .ranks) n (region .intervals) (region .ranks) ≡ true) ⌝ }
+    requires { ⌜ (at (now memo) place ≡ 1 → placed-at (moves .each) (moves .ranks) n (region .intervals) (region .ranks) ≡ false) ⌝ }
+    requires { ⌜ (at (now memo) place ≡ 2 → placed-at (moves .each) (moves .ranks) n (region .intervals) (region .ranks) ≡ true) ⌝ }
+    ensures allowed { λ r. ⌜ r ≡ placed-at (moves .each) (moves .ranks) n (region .intervals) (region .ranks) ⌝ }
+    ensures memo { λ r. ⌜ now (memo .exit) ≡ marked parts place r (now (memo .entry)) ⌝ }
 {
-    if !parted {
+    if parts == 0 {
         return true;
     }
-    moves.are_placed(region, n)
+    let known = memo[place];
+    if known == 1 {
+        return false;
+    }
+    if known == 2 {
+        return true;
+    }
+    let allowed = moves.are_placed(region, n);
+    memo[place] = mark(allowed);
+    allowed
 }
 
 // Writes the rows of all regions with these intervals that the moves allow, ascending, and tells in how many bytes.
-fn write_ranked(buffer: &mut [u8], search: Search, part: Region) -> usize
+fn write_ranked(
+    buffer: &mut [u8],
+    memo: &mut [u8],
+    rankings: &[[u8; 4]],
+    search: Search,
+    part: Region,
+) -> usize
+    requires { ⌜ now rankings ≡ table ⌝ }
     requires { ⌜ Ready search ⌝ }
     requires { ⌜ Low (search .clocks) ⌝ }
     requires { ⌜ InRange (search .clocks) part ⌝ }
     requires { ⌜ Permitted search part ⌝ }
+    requires { ⌜ Kept search (now memo) ⌝ }
     requires { ⌜ length (rows-bytes (rows-allowed search part)) ≤ length (now buffer) ⌝ }
     ensures bytes { λ r. ⌜ r ≡ length (rows-bytes (rows-allowed search part)) ⌝ }
     ensures rows { λ r. ⌜ Holds (rows-allowed search part) (now (buffer .entry)) (now (buffer .exit)) ⌝ }
+    ensures memo { λ r. ⌜ Kept search (now (memo .exit)) ⌝ }
 {
     let clocks = search.clocks;
     let moves = search.moves;
     let n = clocks.count as usize;
-    let parted = some_parted(moves, part, n);
+    let parts = parted_pattern(moves, part, n);
     let first = first_ranking(clocks, part);
     let count = rankings_of(clocks, part);
     let mut at = 0;
     let mut j = 0;
     while j < count {
-        let region = ranked_from(clocks, part, first, j);
-        let wanted = is_allowed(moves, region, n, parted);
+        let region = ranked_from(rankings, clocks, part, first, j);
+        let wanted = is_allowed(memo, parts * 150 + (first + j), parts, moves, region, n);
         at += write_if(&mut buffer[at..], n, region, wanted);
         j += 1;
     }
@@ -108,20 +151,29 @@ fn write_ranked(buffer: &mut [u8], search: Search, part: Region) -> usize
 }
 
 // Writes those rows where a walk over the intervals has chosen all of them, and none elsewhere; tells in how many bytes.
-fn write_chosen(buffer: &mut [u8], search: Search, stand: Stand) -> usize
+fn write_chosen(
+    buffer: &mut [u8],
+    memo: &mut [u8],
+    rankings: &[[u8; 4]],
+    search: Search,
+    stand: Stand,
+) -> usize
+    requires { ⌜ now rankings ≡ table ⌝ }
     requires { ⌜ Ready search ⌝ }
     requires { ⌜ Low (search .clocks) ⌝ }
     requires { ⌜ Chosen search stand ⌝ }
+    requires { ⌜ Kept search (now memo) ⌝ }
     requires { ⌜ length (rows-bytes (rows-chosen search stand)) ≤ length (now buffer) ⌝ }
     ensures bytes { λ r. ⌜ r ≡ length (rows-bytes (rows-chosen search stand)) ⌝ }
     ensures rows { λ r. ⌜ Holds (rows-chosen search stand) (now (buffer .entry)) (now (buffer .exit)) ⌝ }
+    ensures memo { λ r. ⌜ Kept search (now (memo .exit)) ⌝ }
 {
     let clocks = search.clocks;
     if stand.depth != 1 + (clocks.count as usize) {
         return 0;
     }
     let part = stand.part;
-    write_ranked(buffer, search, part)
+    write_ranked(buffer, memo, rankings, search, part)
 }
 
 // Writes the rows of all regions on a way, ascending, each from the next free byte on; tells in how many bytes.
@@ -136,10 +188,12 @@ pub fn write_all(buffer: &mut [u8], way: Way) -> usize
         return 0;
     }
     let search = way.search;
+    let rankings = all_rankings();
+    let mut memo = [0u8; 2400];
     let mut stand = start_in(way.target);
     let mut at = 0;
     while 0 < stand.depth {
-        at += write_chosen(&mut buffer[at..], search, stand);
+        at += write_chosen(&mut buffer[at..], &mut memo, &rankings, search, stand);
         stand = search.step_intervals(stand);
     }
     at

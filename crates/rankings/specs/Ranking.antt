@@ -1,7 +1,7 @@
 -- The rows that have the same location and intervals, and the table from which they are read by number. Assumes nothing.
 use Prim.Native.Nat.{ℕ, zero, suc, _+_, _*_, _≤_, _<_}
 use mathlib.Core.Bool.{Bool, cond}
-use mathlib.Core.List.{List, [], _∷_, map}
+use mathlib.Core.List.{List, map}
 use Rattle.automata.specs.Clocks.{at}
 use Rattle.automata.specs.Row.{Row}
 use Rattle.automata.specs.Rows.{openb, isrowb, select, rank-lists}

@@ -5,9 +5,9 @@ use regions::region::is_open;
 ghost use mathlib.Core.Path.{_≡_};
 ghost use mathlib.Core.Bool.{cond};
 ghost use mathlib.Core.List.{[]};
-ghost use Prim.Native.Nat.{_≤_, _<_};
+ghost use Prim.Native.Nat.{_+_, _<_};
 ghost use lib.ListN.{length, getD, take};
-ghost use Rattle.regions.specs.Values.{Few, bounds-of, row-of, padded};
+ghost use Rattle.regions.specs.Values.{Few, row-of, padded};
 ghost use Rattle.automata.specs.Clocks.{at};
 ghost use Rattle.rankings.specs.Table.{starts, table};
 ghost use Rattle.rankings.specs.Ranking.{rows-ranked, InRange, weight, pattern-of, first-ranking};
@@ -199,16 +199,15 @@ fn start_of(pattern: usize) -> usize
     STARTS[pattern]
 }
 
-// A row of the table.
-fn ranking(number: usize) -> [u8; 4]
-    requires { ⌜ number < 150 ⌝ }
-    ensures { λ r. ⌜ r ≡ getD table number [] ⌝ }
+// The whole table, for who reads many rankings: it is made once, and lent for each of them.
+pub fn all_rankings() -> [[u8; 4]; 150]
+    ensures { λ r. ⌜ r ≡ table ⌝ }
 {
-    RANKINGS[number]
+    RANKINGS
 }
 
 // What a clock adds to the number of a choice of open clocks.
-fn weight_if(inside: bool, z: usize) -> usize
+pub fn weight_if(inside: bool, z: usize) -> usize
     requires { ⌜ z < 4 ⌝ }
     ensures { λ r. ⌜ r ≡ cond inside (weight z) 0 ⌝ }
 {
@@ -252,7 +251,14 @@ pub fn first_ranking(clocks: Clocks, part: Region) -> usize
 }
 
 // Region j of those that have the location and the intervals of the part, ascending, where it is known at which of the table's rows they begin.
-pub fn ranked_from(clocks: Clocks, part: Region, first: usize, j: usize) -> Region
+pub fn ranked_from(
+    rankings: &[[u8; 4]],
+    clocks: Clocks,
+    part: Region,
+    first: usize,
+    j: usize,
+) -> Region
+    requires { ⌜ now rankings ≡ table ⌝ }
     requires { ⌜ Few clocks ⌝ }
     requires { ⌜ InRange clocks part ⌝ }
     requires { ⌜ first ≡ first-ranking clocks part ⌝ }
@@ -261,9 +267,10 @@ pub fn ranked_from(clocks: Clocks, part: Region, first: usize, j: usize) -> Regi
     ensures location { λ r. ⌜ r .location ≡ part .location ⌝ }
     ensures intervals { λ r. ⌜ r .intervals ≡ part .intervals ⌝ }
     ensures ranks { λ r. ⌜ r .ranks ≡ padded (take (clocks .count) (r .ranks)) ⌝ }
+    ensures table { λ r. ⌜ r .ranks ≡ getD table (first + j) [] ⌝ }
 {
     let intervals = part.intervals;
-    let ranks = ranking(first + j);
+    let ranks = rankings[first + j];
     Region {
         location: part.location,
         intervals: intervals,
@@ -281,5 +288,6 @@ pub fn ranked(clocks: Clocks, part: Region, j: usize) -> Region
     ensures intervals { λ r. ⌜ r .intervals ≡ part .intervals ⌝ }
     ensures ranks { λ r. ⌜ r .ranks ≡ padded (take (clocks .count) (r .ranks)) ⌝ }
 {
-    ranked_from(clocks, part, first_ranking(clocks, part), j)
+    let rankings = all_rankings();
+    ranked_from(&rankings, clocks, part, first_ranking(clocks, part), j)
 }

@@ -1,32 +1,31 @@
 -- The rows with the same intervals that the moves allow: which they are, and when all of them are allowed. Assumes nothing.
-use Prim.Native.Nat.{ℕ, zero, suc, _+_, _*_, _-_, _≤_, _<_, _%_}
+use Prim.Native.Nat.{ℕ, zero, suc, _+_, _*_, _-_, _<_, _%_}
 use native.Mathlib.Omega.{arith}
 use mathlib.Core.Path.{_≡_, refl, sym, ap, subst, _∙_}
-use mathlib.Core.Bool.{Bool, true, false, cond, not, _&&_, _||_}
+use mathlib.Core.Bool.{Bool, true, false, not, _&&_, _||_}
 use mathlib.Core.Logic.{_⊎_, inl, inr}
-use mathlib.Core.List.{List, [], _∷_, _++_, map}
-use lib.ListN.{length, getD, take}
-use lib.Dec.{eqb, leb}
-use borrow.Author.Tests.{le-leb, eq-eqb}
-use Rattle.automata.specs.Clocks.{at, allb, someb}
-use Rattle.automata.specs.Comparison.{some-answer, holds}
+use mathlib.Core.List.{List, map}
+use lib.ListN.{getD, take}
+use lib.Dec.{eqb}
+use borrow.Author.Tests.{le-leb}
+use Rattle.automata.specs.Clocks.{at}
 use Rattle.automata.specs.Row.{Row, Before, Below}
 use Rattle.automata.specs.Closed.{Mem}
-use Rattle.automata.specs.Rows.{isrowb, select, rank-lists}
+use Rattle.automata.specs.Rows.{isrowb, rank-lists}
 use Rattle.automata.specs.Successors.{least}
 use Rattle.regions.specs.Move.{fits-at, permitsb}
 use Rattle.regions.specs.Placing.{still, clock-fits-at, rank-fits-at, greedy-at, placed-at}
-use Rattle.regions.specs.Values.{bounds-of, row-of}
+use Rattle.regions.specs.Values.{bounds-of}
 use Rattle.regions.specs.declared.clock_move.Move.{Move}
 use Rattle.regions.specs.declared.region.Region.{Region}
 use Rattle.rankings.specs.Ranking.{ranked-rows, rows-ranked}
 use Rattle.edge_walk.specs.Choice.{allowsb, Candidate}
 use Rattle.edge_walk.specs.declared.choice.Search.{Search}
-use Rattle.following.specs.Writing.{row-if, rows-allowed, partedb, parted-at, Permitted}
-use Rattle.automata.proofs.Laws.Tests.{Says, never, true-or-false, refutes, eqb-law, leb-law, and-law, not-law, allb-law, someb-law, same-test}
+use Rattle.following.specs.Writing.{rows-allowed, partedb}
+use Rattle.automata.proofs.Laws.Tests.{never, true-or-false, refutes, eqb-law, and-law, not-law, allb-law, same-test}
 use Rattle.automata.proofs.Laws.Members.{map-in, map-out, select-in, select-out, Sorted, sorted-select, sorted-map}
 use Rattle.automata.proofs.Laws.Rows.{isrowb-law, rank-lists-in, rank-lists-sorted}
-use Rattle.regions.proofs.Laws.Move.{freeb, by-partsb, fits-free, fits-parts, fits-fixed, permits-free, permits-fixed}
+use Rattle.regions.proofs.Laws.Move.{freeb, by-partsb, fits-free, fits-fixed, permits-free, permits-fixed}
 use Rattle.regions.proofs.Laws.Placing.{placed-less}
 use Rattle.regions.proofs.Laws.Values.{at-take}
 
@@ -118,21 +117,3 @@ module _ (ms : List Move) (g n : ℕ) (js ks : List ℕ) where
         placed-less ms g n n (take n js) (take n ks) js ks (omega arith) (λ z l. (at-take n js z l, at-take n ks z l)),
         placed-less ms g n n js ks (take n js) (take n ks) (omega arith) (λ z l. (sym (at-take n js z l), sym (at-take n ks z l))),
       )
-
--- the code's answer
-module _ (s : Search) (part region : Region) (e : region .intervals ≡ part .intervals) (permitted : Permitted s part) where
-  pub is-allowed : (parted b : Bool) → parted ≡ someb (s .clocks .count) (parted-at (s .moves .each) part)
-      → b ≡ (not parted || placed-at (s .moves .each) (s .moves .ranks) (s .clocks .count) (region .intervals) (region .ranks))
-      → b ≡ allowsb s (row-of (s .clocks .count) region)
-  is-allowed true b d f = f ∙ placed-first (s .moves .each) (s .moves .ranks) (s .clocks .count) (region .intervals) (region .ranks)
-  is-allowed false b d f =
-      f ∙ sym (sym (placed-first (s .moves .each) (s .moves .ranks) (s .clocks .count) (region .intervals) (region .ranks))
-      ∙ placed-free (s .moves .each) (s .moves .ranks) (s .clocks .count) (region .intervals) (region .ranks) (λ z l p. rw e (loose-fits _ _ p (permitted z l) (none z l))))
-    where
-      none : (z : ℕ) → z < s .clocks .count → parted-at (s .moves .each) part z ≡ false
-      none z l = go (true-or-false (parted-at (s .moves .each) part z))
-        where
-          go : (parted-at (s .moves .each) part z ≡ true) ⊎ (parted-at (s .moves .each) part z ≡ false) → parted-at (s .moves .each) part z ≡ false
-          go (inr t) = t
-          go (inl t) =
-              absurd (refutes _ (someb-law (s .clocks .count) (parted-at (s .moves .each) part) (λ z. (λ (t : parted-at (s .moves .each) part z ≡ true). t, λ (t : parted-at (s .moves .each) part z ≡ true). t))) (sym d) (z, l, t))

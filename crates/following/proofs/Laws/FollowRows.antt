@@ -3,19 +3,19 @@ use Prim.Native.Nat.{ℕ, zero, suc, _+_, _*_, _/_, _≤_, _<_}
 use native.Mathlib.Nat.{suc-mul, zero-mul}
 use native.Mathlib.Omega.{arith}
 use mathlib.Core.Path.{_≡_, refl, sym, ap, subst, _∙_}
-use mathlib.Core.Bool.{Bool, true, false}
+use mathlib.Core.Bool.{Bool, true, false, _&&_}
 use mathlib.Core.Option.{Option, none, some}
 use mathlib.Core.Logic.{_⊎_, inl, inr}
 use mathlib.Core.List.{List, [], _∷_, _++_, append-nil, List·Memᴰ·head, List·Memᴰ·tail, List·Memᴰ·not-nil, List·Memᴰ·cases-cons}
-use lib.ListN.{length, take, drop, length-append}
-use lib.Dec.{leb}
+use lib.ListN.{length, drop, length-append}
+use lib.Dec.{eqb, leb}
 use lib.Seq.{getD-take, length-take-le}
 use borrow.Author.Tests.{le-leb, lt-leb}
 use Rattle.automata.specs.Clocks.{at}
 use Rattle.automata.specs.Row.{Row, IsRow}
 use Rattle.automata.specs.Closed.{Mem}
 use Rattle.automata.specs.Wait.{wait}
-use Rattle.automata.specs.Successors.{held, wait-rows}
+use Rattle.automata.specs.Successors.{held, wait-rows, guardsb}
 use Rattle.edge_walk.specs.Choice.{Ready}
 use Rattle.edge_walk.specs.Way.{way-rows}
 use Rattle.edge_walk.specs.declared.way.Way.{Way}
@@ -24,17 +24,19 @@ use Rattle.regions.specs.declared.region.Clocks as clocks-code
 use Rattle.regions.specs.declared.region.Region.{Region}
 use Rattle.regions.specs.declared.region.Sought.{Sought}
 use Rattle.regions.specs.declared.edge.Edge as edge-code
-use Rattle.automata.proofs.Laws.Tests.{never, true-or-false, leb-law, says, same-test}
+use Rattle.automata.proofs.Laws.Tests.{never, true-or-false, eqb-law, leb-law, and-law, says, same-test}
 use Rattle.automata.proofs.Laws.Waiting.{wait-row}
 use Rattle.automata.proofs.Laws.Successors.{edge-rows-law}
 use Rattle.regions.proofs.Laws.Values.{found-sought}
+use Rattle.edge_walk.proofs.Laws.Way.{no-way}
 use Rattle.edge_walk.proofs.Laws.Along.{none-on, on-start}
 use Rattle.table_files.specs.Answer.{Answer, accepted, refused}
 use Rattle.calls.specs.RegionFile.{row-width, row-bytes, rows-bytes}
 use Rattle.calls.proofs.Laws.Rows.{row-width-is}
 use Rattle.following.specs.Following.{Stands, Leaves, rows-waited, rows-led, row-found, fits, told, put}
 use Rattle.following.specs.Writing.{Low}
-use Rattle.following.proofs.Laws.Put.{one-long, rows-length}
+use Rattle.following.proofs.Laws.Put.{one-long}
+use Rattle.following.proofs.Laws.Taking.{no-rows}
 
 -- rows of n clocks, whose intervals are bytes --------------------------------------------------------------------------------------
 
@@ -111,7 +113,7 @@ pub fitted : (rows : List Row) (o after : List ℕ) (count : ℕ) → true ≡ f
 fitted rows o after count e n w = rw (← e) (ap accepted n, w)
 
 -- one row or none
-module _ (n : ℕ) (few : n ≤ 4) (next : Sought) (p : length (next .region .intervals) ≡ 4) (q : length (next .region .ranks) ≡ 4) where
+module _ (n : ℕ) (next : Sought) where
   row-is : next .found ≡ true → row-found n next ≡ row-of n (next .region) ∷ []
   row-is f = go (next .found) f
     where
@@ -126,10 +128,14 @@ module _ (n : ℕ) (few : n ≤ 4) (next : Sought) (p : length (next .region .in
       go true e = never (sym e)
       go false e = refl
 
+  -- its region can be written
+  pub narrow-row : ((r : Row) → Mem r (row-found n next) → Sized n r) → next .found ≡ true → (z : ℕ) → z < n → at (next .region .intervals) z < 256
+  narrow-row h f z l = rw (getD-take n (next .region .intervals) z 0 l) at (h (row-of n (next .region)) (subst (λ (rows : List Row). Mem (row-of n (next .region)) rows) (sym (row-is f)) (List·Memᴰ·head refl)) .narrow z l)
+
   pub none-done : next .found ≡ false → (o : List ℕ) → Done (row-found n next) o (accepted 0) o
   none-done f o = rw (no-row f) (fitted [] o o 0 (sym (le-leb 0 (length o) (omega arith))) refl refl)
 
-  module _ (f : next .found ≡ true) where
+  module _ (few : n ≤ 4) (p : length (next .region .intervals) ≡ 4) (q : length (next .region .ranks) ≡ 4) (f : next .found ≡ true) where
     long : length (rows-bytes (row-found n next)) ≡ row-width n
     long = ap (λ (l : List Row). length (rows-bytes l)) (row-is f) ∙ one-long n few (next .region) p q
 
@@ -141,10 +147,6 @@ module _ (n : ℕ) (few : n ≤ 4) (next : Sought) (p : length (next .region .in
         fitted (row-found n next) o after 1 (sym (le-leb (length (rows-bytes (row-found n next))) (length o) (omega (arith, long)))) (ap length (sym (row-is f)))
         (w ∙ (λ i. sym (append-nil (row-bytes (row-of n (next .region)))) i ++ drop (sym long i) o)
         ∙ ap (λ (l : List Row). rows-bytes l ++ drop (length (rows-bytes (row-found n next))) o) (sym (row-is f)))
-
-  -- its region can be written
-  pub narrow-row : ((r : Row) → Mem r (row-found n next) → Sized n r) → next .found ≡ true → (z : ℕ) → z < n → at (next .region .intervals) z < 256
-  narrow-row h f z l = rw (getD-take n (next .region .intervals) z 0 l) at (h (row-of n (next .region)) (subst (λ (rows : List Row). Mem (row-of n (next .region)) rows) (sym (row-is f)) (List·Memᴰ·head refl)) .narrow z l)
 
 -- the rows of an edge and of a wait ----------------------------------------------------------------------------------------------
 
@@ -174,3 +176,14 @@ module _ (k : clocks-code.Clocks) (four : length (k .bounds) ≡ 4) (r : Region)
             here : (s ≡ t) ⊎ Mem s [] → Sized (k .count) s
             here (inl d) = rw d (sized t p)
             here (inr j) = absurd (List·Memᴰ·not-nil j)
+
+  -- by an edge that cannot be taken
+  pub no-image : (e : edge-code.Edge) → Leaves k e → eqb (r .location) (e .source) && guardsb (row-of (k .count) r) (edge-of (k .count) e .guards) ≡ false
+      → (next : Sought) → next ≡ sought none → rows-led k e r ≡ row-found (k .count) next
+  no-image e E f next g =
+      let w : Way = record { leads = false; target = 0; search = record { clocks = k; moves = record { ranks = 0; each = [] } } } in
+      sym (no-way k (S .few) four r (S .is-row) e (E .bounded) w refl f) ∙ no-rows w refl ∙ sym (ap (row-found (k .count)) g)
+
+-- an edge that can be taken leaves from the location, and its guards hold
+pub enabled : (a b : ℕ) (g : Bool) → eqb a b && g ≡ true → (a ≡ b) × (g ≡ true)
+enabled a b g = and-law (eqb a b) g (eqb-law a b) (λ (h : g ≡ true). h, λ (h : g ≡ true). h) .0

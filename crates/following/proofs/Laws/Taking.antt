@@ -1,5 +1,5 @@
 -- The rows on a way, taken intervals by intervals: where a walk has chosen all intervals, the rows with these are the first that are ahead. Assumes nothing.
-use Prim.Native.Nat.{ℕ, zero, suc, _+_, _*_, _-_, _≤_, _<_}
+use Prim.Native.Nat.{ℕ, zero, suc, _+_, _-_, _≤_, _<_}
 use native.Mathlib.Omega.{arith}
 use mathlib.Core.Path.{_≡_, refl, sym, ap, subst, _∙_}
 use mathlib.Core.Bool.{Bool, true, false, cond, not}
@@ -15,9 +15,9 @@ use Rattle.automata.specs.Closed.{Mem}
 use Rattle.automata.specs.Rows.{select}
 use Rattle.automata.specs.Checks.{has}
 use Rattle.regions.specs.Order.{numbers}
-use Rattle.regions.specs.Values.{bounds-of, row-of}
+use Rattle.regions.specs.Values.{row-of}
 use Rattle.regions.specs.declared.region.Region.{Region}
-use Rattle.edge_walk.specs.Choice.{Agree, Candidate, Ready, numbers-of}
+use Rattle.edge_walk.specs.Choice.{Candidate, Ready, numbers-of}
 use Rattle.edge_walk.specs.Stand.{start, Begun, Later, Ahead, Standing, Advance}
 use Rattle.edge_walk.specs.Intervals.{Chosen}
 use Rattle.edge_walk.specs.Way.{way-rows}
@@ -33,7 +33,7 @@ use Rattle.automata.proofs.Laws.Ordered.{not-both-below}
 use Rattle.regions.proofs.Laws.Values.{length-first, length-padded}
 use Rattle.edge_walk.proofs.Laws.Numbers.{before-at, before-below, interval-number, count-numbers}
 use Rattle.edge_walk.proofs.Laws.Stand.{none-ahead}
-use Rattle.edge_walk.proofs.Laws.Along.{way-sorted, none-on, starts, start-on, on-start}
+use Rattle.edge_walk.proofs.Laws.Along.{way-sorted, starts, start-on, on-start}
 use Rattle.edge_walk.proofs.Laws.Intervals.{chosen-start}
 use Rattle.following.proofs.Laws.Allowed.{allowed-in, allowed-out, allowed-sorted}
 use Rattle.following.proofs.Laws.Put.{Put, put-none, put-holds, put-more, put-room, rows-length}

@@ -15,7 +15,7 @@ use Rattle.automata.specs.Row.{Row, IsRow, Open}
 use Rattle.automata.specs.Closed.{Mem}
 use Rattle.automata.specs.Rows.{openb, isrowb, from, select, choices, rank-lists}
 use Rattle.automata.specs.Rankings.{open-clocks, rankings}
-use Rattle.regions.specs.Values.{Few, bounds-of, row-of, padded}
+use Rattle.regions.specs.Values.{bounds-of, row-of, padded}
 use Rattle.regions.specs.declared.region.Clocks.{Clocks}
 use Rattle.regions.specs.declared.region.Region.{Region}
 use Rattle.rankings.specs.Ranking.{ranked-rows, rows-ranked, InRange, weight, pattern, pattern-of}
@@ -26,7 +26,7 @@ use Rattle.automata.proofs.Laws.Rows.{isrowb-law}
 use Rattle.automata.proofs.Laws.Rankings.{fullb, ranked, opens, counted, row-full}
 use Rattle.regions.proofs.Laws.Values.{at-take, length-first, length-bounds, take-padded}
 use Rattle.rankings.specs.Table.{starts, table}
-use Rattle.rankings.proofs.Laws.Table.{listed, all-tabled}
+use Rattle.rankings.proofs.Laws.Table.{table-long, all-tabled}
 
 -- lists ---------------------------------------------------------------------------------------------------------------------------------
 
@@ -123,7 +123,7 @@ weights (suc (suc (suc zero))) h = refl
 weights (suc (suc (suc (suc z)))) h = absurd (omega arith)
 
 -- a clock's weight is above all numbers without it
-pattern-less : (p : ℕ → Bool) (n : ℕ) → pattern p n < weight n
+pub pattern-less : (p : ℕ → Bool) (n : ℕ) → pattern p n < weight n
 unfolding pattern
 pattern-less p zero = omega arith
 pattern-less p (suc n) = go (p n) (pattern-less p n)
@@ -181,10 +181,6 @@ module _ (k : Clocks) (part : Region) where
         ranked-are c (part .location) js (length-first n (part .intervals) few intervals ∙ sym sized)
         (λ z h. let l : z < n = omega (arith, sized) in rw (at-take n (k .bounds) z l, at-take n (part .intervals) z l) (within z l))
         ∙ ap (λ (i : ℕ). map (λ (ks : List ℕ). record { location = part .location; intervals = js; ranks = ks }) (ranked i (opens c js))) sized
-
-    table-long : length table ≡ 150
-    unfolding table
-    table-long = refl
 
     many : length (ranked n (opens c js)) ≡ at starts (m + 1) - at starts m
     many =

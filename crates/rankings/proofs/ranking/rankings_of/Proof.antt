@@ -1,5 +1,5 @@
 use native.Mathlib.Omega.{arith}
-use mathlib.Core.Path.{_≡_, refl, sym, ap, _∙_}
+use mathlib.Core.Path.{_≡_, sym}
 use lib.ListN.{length}
 use Rattle.regions.specs.Values.{bounds-of, row-of}
 use Rattle.automata.proofs.Laws.Rankings.{opens}

@@ -1,6 +1,6 @@
 use Prim.Native.Nat.{_+_}
 use native.Mathlib.Omega.{arith}
-use mathlib.Core.Path.{_≡_, sym, _∙_}
+use mathlib.Core.Path.{_≡_, sym}
 use lib.ListN.{length}
 use Rattle.edge_walk.proofs.Laws.Choice.{top-low, interval-ends, interval-skips, not-yet}
 use Rattle.edge_walk.proofs.Laws.Stand.{step-back, step-none, step-last, step-on}
@@ -8,11 +8,6 @@ use Rattle.edge_walk.proofs.Laws.Intervals.{chosen-back, chosen-on}
 use borrow.Author.Needs.{needs}
 use Rattle.edge_walk.proofs.choice.Search.step_intervals.Statement.{statement}
 use Rattle.edge_walk.proofs.choice.Search.step_intervals.Tie as tie
-use Rattle.edge_walk.proofs.choice.Search.step_intervals.Reads as reads
-use Rattle.edge_walk.proofs.choice.Search.step_intervals.Lts as lts
-use Rattle.edge_walk.proofs.stand.step_back.Reads as step-back-reads
-use Rattle.regions.proofs.clock_move.Move.next_permitted.Reads as next-permitted-reads
-use Rattle.regions.proofs.region.Region.with_number.Reads as with-number-reads
 
 -- the arrays have four numbers each
 bounds : (c : tie.Start) → length (c .args .self .clocks .bounds) ≡ 4

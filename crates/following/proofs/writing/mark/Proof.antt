@@ -1,0 +1,12 @@
+use borrow.Author.Tests.{not-true, not-false}
+use Rattle.following.proofs.writing.mark.Statement.{statement}
+use Rattle.following.proofs.writing.mark.Tie as tie
+
+returns : tie.Need-returns
+returns c = rw (not-true (c .before .args .allowed) (c .if1 .taken))
+
+returns-2 : tie.Need-returns-2
+returns-2 c = rw (not-false (c .before .args .allowed) (c .if1 .left))
+
+pub mark-spec : {M : Type 1} → statement M
+mark-spec = tie.close (tie.spec returns returns-2)
