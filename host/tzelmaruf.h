@@ -16,7 +16,8 @@
  *   accepted: the count (records of a table, steps of a run list, rows of a region list), which is below 65,536;
  *   refused:  the refusal number times 65,536 plus the place, the number of the record in its file (the header is 0).
  *
- * Link with libtzelmaruf.a (`make -C host` writes it to target/host/). It needs nothing from outside.
+ * Link with libtzelmaruf.a (`make -C host` writes it to target/host/). It needs nothing from outside but the
+ * C library's memcpy and memset.
  */
 #ifndef TZELMARUF_H
 #define TZELMARUF_H
@@ -28,8 +29,8 @@
  * The release, as text and as a number: 10,000 for each major, 100 for each minor, 1 for each patch. From 1.1.0 on a table may have
  * comparison 5, not equal; 1.0.0 refuses it as out of range (TZELMARUF_TABLE_RANGE).
  */
-#define TZELMARUF_VERSION "1.1.1"
-#define TZELMARUF_VERSION_NUMBER 10101
+#define TZELMARUF_VERSION "1.1.2"
+#define TZELMARUF_VERSION_NUMBER 10102
 
 #ifdef __cplusplus
 extern "C" {

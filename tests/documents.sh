@@ -183,7 +183,7 @@ held="($number|equal\b)"
   # code: u.comparison == 2 (also as usize), 2 <= comparison, comparison: 2, match u.comparison, holds(2, x, y)
   printf '%s\n' "$it( as \w+)?\)* (==|!=|<=?|>=?) \(*$held" "\b$held( as \w+)?\)* (==|!=|<=?|>=?) \(*(\w+\.)*$it" \
     "$it: $number" "\bmatch \(*(\w+\.)*$it" "\b(holds|answers_of|is_at_alone)\( ?$held"
-  # and a number where a function has `comparison` among its arguments: key(clocks, falling, a, 2, z, from)
+  # and a number where a function has `comparison` among its arguments: update_ends(clocks, a, 2, z, from)
   sed 's,//.*,,' crates/*/src/*.rt | tr -s ' \n' '  ' | grep -oE '\bfn \w+\([^()]*\b(comparison|cmp): ' | sed -E 's/^fn //; s/\( ?&?self, /(/' |
     while IFS='(' read -r name before; do
       before=${before//[!,]/}
@@ -206,14 +206,14 @@ by_number() {
 for text in 'if update.comparison == 2 {' 'if (u.comparison as usize) != EQUAL {' 'if 3 <= comparison {' 'falling && comparison <= 1' 'comparison: 2,' \
   'if update.comparison == comparison::EQUAL {' 'if comparison::EQUAL as usize == (u.comparison as usize) {' 'comparison: comparison::AT_MOST,' \
   'match u.comparison {' 'comparison::holds(2, x, y)' 'comparison::holds(comparison::EQUAL, x, y)' 'comparison::answers_of(4)' 'is_at_alone(2)' \
-  'key(clocks, is_falling(e), a, 2, z, from)' 'settledb u = eqb (comparison-of (u .comparison) (u .action)) 2' 'ltb 2 (u .comparison)' \
+  'update_ends(clocks_of(e), a, 2, z, from)' 'settledb u = eqb (comparison-of (u .comparison) (u .action)) 2' 'ltb 2 (u .comparison)' \
   'eqb (comparison-of (u .comparison) (u .action)) equal' 'eqb equal (u .comparison)' 'u .comparison ≡ equal' 'equal ≡ cmp' \
   'comparison-of cmp keep = 2' 'record { action = keep; comparison = 2 }' 'holds 2 x y' 'AllowedBy D (later d v) z x 2 keep' 'u .comparison ≡ 2'; do
   echo "$text" > "$room/text"
   if by_number "$room/text" > /dev/null; then ok; else bad "the search for a comparison's number passes over '$text'"; fi
 done
 for text in 'comparison: u8,' 'comparison: u.comparison,' 'comparison::holds(u.comparison, 1, 0)' 'holds (u .comparison) x (2 * k)' 'comparison = cmp;' \
-  'comparison: comparison::EQUAL,' 'comparison-of cmp keep = equal' 'key(clocks, false, a, u.comparison, 0, from)' \
+  'comparison: comparison::EQUAL,' 'comparison-of cmp keep = equal' 'update_ends(clocks, a, u.comparison, 0, from)' \
   '// comparison == 2' 'AllowedBy D v z x cmp (constant 2)'; do
   echo "$text" > "$room/text"
   if found=$(by_number "$room/text"); then bad "the search for a comparison's number finds '$found'"; else ok; fi

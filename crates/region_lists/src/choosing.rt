@@ -38,7 +38,7 @@ fn group(reach: [u32; 9]) -> u32
 // Whether a reach had better wait for another turn: where many are chosen, one of another group than the first is within none of that group, nor the
 // other way round, so that to compare them would be in vain. Either answer would be right.
 fn is_apart(size: usize, first: [u32; 9], own: [u32; 9]) -> bool {
-    if size < 16 {
+    if size < 48 {
         return false;
     }
     group(first) != group(own)
