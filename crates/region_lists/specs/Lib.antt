@@ -1,6 +1,3 @@
--- The rows of a list by their numbers, and what an edge reads of a region.
-pub mod Listed
-pub mod Ranked
+-- What the passes over a list give.
 pub mod RegionList
 pub mod Leading
-pub mod Counted

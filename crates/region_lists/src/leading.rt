@@ -1,83 +1,34 @@
 // Whether a region list has the rows that the edges lead to from each of its rows: refusal 17.
-ghost use mathlib.Core.Path.{_≡_};
-ghost use mathlib.Core.Bool.{true};
 ghost use Prim.Native.Nat.{_+_, _*_, _≤_, _<_};
 ghost use lib.ListN.{length};
-ghost use Rattle.automata.specs.Row.{IsRow};
 ghost use Rattle.automata.specs.Edge.{Bounded};
 ghost use Rattle.automata.specs.Closed.{Ascends};
 ghost use Rattle.automata.specs.Successors.{edge-rows};
-ghost use Rattle.regions.specs.Image.{deterministic};
-ghost use Rattle.automata.specs.Checks.{every, has};
-ghost use Rattle.regions.specs.Values.{bounds-of, row-of, edge-of};
+ghost use Rattle.automata.specs.Checks.{has};
+ghost use Rattle.regions.specs.Values.{bounds-of, edge-of};
 ghost use Rattle.table_files.specs.Admission.{table-of};
-ghost use Rattle.calls.specs.RegionFile.{row-width};
 ghost use Rattle.tables.specs.Values.{Describes};
-ghost use Rattle.region_lists.specs.Listed.{listed-rows, Listed};
+ghost use Rattle.listed_rows.specs.Listed.{listed-rows, Listed};
 ghost use Rattle.automata.specs.Next.{by-edges};
 ghost use Rattle.region_lists.specs.RegionList.{NextListed};
-ghost use Rattle.region_lists.specs.Leading.{Starts, Together, RowsIn, AllSit, Walked, FromAll};
-use crate::choosing::choose;
+ghost use Rattle.listed_rows.specs.Located.{Together, RowsIn};
+ghost use Rattle.selection.specs.Chosen.{AllSit};
+ghost use Rattle.region_lists.specs.Leading.{Walked, FromAll};
 use crate::imaging::lacks_image;
-use crate::inside::leads_inside;
-use crate::listed::Span;
-use crate::listed::location_at;
-use crate::listed::row_at;
-use crate::listed::rows_below;
+use inclusion::inside::leads_inside;
+use listed_rows::listed::Span;
+use listed_rows::listed::row_at;
+use listed_rows::located::rows_in;
 use regions::edge::Edge;
 use regions::image::is_deterministic;
 use regions::region::Clocks;
-use regions::region::Region;
+use selection::choosing::choose;
 use skylines::sides::is_choice;
 use skylines::sides::with_sides;
 use table_records::decode::after_edge;
 use table_records::decode::edge_from;
 use table_records::head::Head;
 use tables::admission::first_edge;
-
-// How many rows are in the locations before this one: looked for by halves, since a hint past the end tells nothing.
-fn rows_before(list: &[u8], clocks: Clocks, count: usize, location: u8) -> usize
-    requires { ⌜ Listed clocks (now list) count ⌝ }
-    requires { ⌜ Ascends (listed-rows (clocks .count) (now list) count) ⌝ }
-    ensures { λ r. ⌜ Starts (clocks .count) (now (list .entry)) count location r ⌝ }
-{
-    let least = Region {
-        location: location,
-        intervals: [0; 4],
-        ranks: [0; 4],
-    };
-    rows_below(list, clocks, count, least, 2 * count)
-}
-
-// Where the rows of a location end that start at a row.
-fn rows_end(list: &[u8], n: usize, count: usize, start: usize, location: u8) -> usize
-    requires { ⌜ n ≤ 4 ⌝ }
-    requires { ⌜ 4 + count * row-width n ≤ length (now list) ⌝ }
-    requires { ⌜ (start ≤ count) × (count ≤ 4096) ⌝ }
-    ensures { λ r. ⌜ Together n (now (list .entry)) count start location r ⌝ }
-{
-    let mut i = start;
-    while i < count {
-        if location_at(list, n, i) != location {
-            return i;
-        }
-        i += 1;
-    }
-    i
-}
-
-// Where the rows of a location stand.
-fn rows_in(list: &[u8], clocks: Clocks, count: usize, location: u8) -> Span
-    requires { ⌜ Listed clocks (now list) count ⌝ }
-    requires { ⌜ Ascends (listed-rows (clocks .count) (now list) count) ⌝ }
-    ensures { λ r. ⌜ RowsIn (clocks .count) (now (list .entry)) count location (r .start) (r .end) ⌝ }
-{
-    let start = rows_before(list, clocks, count, location);
-    Span {
-        start: start,
-        end: rows_end(list, clocks.count as usize, count, start, location),
-    }
-}
 
 // The place of one of the rows that were chosen which lacks a next row by the edge, or 0: it is walked from each.
 fn lacks_from(

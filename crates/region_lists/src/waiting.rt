@@ -5,10 +5,10 @@ ghost use Rattle.automata.specs.Closed.{Ascends};
 ghost use Rattle.automata.specs.Successors.{wait-rows};
 ghost use Rattle.automata.specs.Checks.{every, has};
 ghost use Rattle.regions.specs.Values.{bounds-of, row-of};
-ghost use Rattle.region_lists.specs.Listed.{listed-rows, Listed};
+ghost use Rattle.listed_rows.specs.Listed.{listed-rows, Listed};
 ghost use Rattle.region_lists.specs.RegionList.{NextListed};
-use crate::listed::find;
-use crate::listed::row_at;
+use listed_rows::listed::find;
+use listed_rows::listed::row_at;
 use regions::region::Clocks;
 use regions::region::Region;
 

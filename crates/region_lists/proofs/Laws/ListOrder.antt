@@ -12,9 +12,9 @@ use Rattle.automata.specs.Automaton.{Table, final}
 use Rattle.automata.specs.Checks.{belowb}
 use Rattle.table_files.specs.Reading.{good, bad, carry, require}
 use Rattle.calls.specs.RegionFile.{ascending, none-final}
-use Rattle.region_lists.specs.Listed.{listed-row, listed-rows}
+use Rattle.listed_rows.specs.Listed.{listed-row, listed-rows}
 use Rattle.region_lists.specs.RegionList.{passed}
-use Rattle.region_lists.proofs.Laws.Listed.{listed-length, listed-at}
+use Rattle.listed_rows.proofs.Laws.Listed.{listed-length, listed-at}
 
 -- a pass that ended at a place
 pub passed-at : (number place : ℕ) → (place ≡ 0 → ⊥) → (file : List ℕ) → passed number place file ≡ bad number place

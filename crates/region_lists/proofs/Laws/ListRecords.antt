@@ -18,9 +18,9 @@ use Rattle.table_files.specs.Reading.{Read, good, bad, carry, done, require, ne
 use Rattle.table_files.proofs.Laws.Reading.{parts, tested, took-record}
 use Rattle.calls.proofs.Laws.Rows.{row-width-is}
 use Rattle.calls.specs.RegionFile.{row-width, row-in, row-record, region-file, rows-read, rows-of}
-use Rattle.region_lists.specs.Listed.{listed-row, listed-rows}
+use Rattle.listed_rows.specs.Listed.{listed-row, listed-rows}
 use Rattle.calls.proofs.Laws.RecordReads.{record-missing, record-there, record-length}
-use Rattle.region_lists.proofs.Laws.Listed.{listed-length}
+use Rattle.listed_rows.proofs.Laws.Listed.{listed-length}
 use Rattle.region_lists.specs.RegionList.{Told}
 
 -- how a reading ended ---------------------------------------------------------------------------------------------------------------

@@ -10,33 +10,28 @@ use mathlib.Core.Logic.{_↔_}
 use mathlib.Core.Option.{Option, none, some}
 use mathlib.Core.List.{List}
 use lib.ListN.{length, getD}
-use lib.Dec.{eqb}
-use borrow.Author.Tests.{ne-eqb}
 use Rattle.automata.specs.Row.{Row, IsRow}
 use Rattle.automata.specs.Wait.{wait}
 use Rattle.automata.specs.Edge.{Edge, Bounded}
 use Rattle.automata.specs.Automaton.{Table, edge}
 use Rattle.automata.specs.Closed.{Mem}
-use Rattle.automata.specs.Rows.{isrowb, rows-at}
-use Rattle.automata.specs.Successors.{guardsb, placedb, leadsb, held, wait-rows, edge-rows}
+use Rattle.automata.specs.Successors.{held, wait-rows, edge-rows}
 use Rattle.automata.specs.Next.{edge-successors, by-edges}
 use Rattle.automata.specs.Checks.{every, has}
 use Rattle.regions.specs.Values.{bounds-of, row-of, region-of, sought, found-of, edge-of}
 use Rattle.regions.specs.declared.edge.Edge as edge-code
 use Rattle.regions.specs.declared.region.Sought.{Sought}
-use Rattle.automata.proofs.Laws.Tests.{never, and-law, fails, refutes}
+use Rattle.automata.proofs.Laws.Tests.{never, fails, refutes}
 use Rattle.automata.proofs.Laws.Waiting.{wait-row}
 use Rattle.automata.proofs.Laws.Next.{edge-successors-are, by-edges-law}
 use Rattle.automata.proofs.Laws.Checks.{has-law, every-law}
 use Rattle.table_files.specs.Admission.{table-of}
 use Rattle.tables.specs.Values.{Describes}
 use Rattle.table_records.specs.declared.head.Head.{Head}
-use Rattle.table_files.proofs.Laws.Reading.{itself}
 use Rattle.table_files.proofs.Laws.Admission.{admission-admitted}
-use Rattle.region_lists.specs.Listed.{listed-row, listed-rows}
+use Rattle.listed_rows.specs.Listed.{listed-row, listed-rows}
 use Rattle.region_lists.specs.RegionList.{NextListed}
-use Rattle.skylines.proofs.Laws.NoFurther.{select-none}
-use Rattle.region_lists.proofs.Laws.Listed.{listed-length, listed-at, in-listed}
+use Rattle.listed_rows.proofs.Laws.Listed.{listed-length, listed-at, in-listed}
 
 -- one region that may be missing ---------------------------------------------------------------------------------------------------------
 
@@ -84,25 +79,6 @@ module _ (c : List ℕ) (n : ℕ) (sized : length c ≡ n) (p : Row → Bool) (r
       go : Came n (wait c r) s → true ≡ every p (held (wait c r))
       go (nothing w _) = rw w refl
       go (something x w g _ _) = never (sym f ∙ g)
-
--- an edge --------------------------------------------------------------------------------------------------------------------------------
-
--- from another location it leads nowhere
-pub edge-elsewhere : (c : List ℕ) (e : Edge) (r : Row) (p : Row → Bool) → (r .location ≡ e .source → ⊥) → true ≡ every p (edge-rows c e r)
-unfolding edge-rows leadsb
-edge-elsewhere c e r p h =
-    ap (every p) (sym (select-none (leadsb c e r) (rows-at c (e .target)) (λ x. rw (ne-eqb (r .location) (e .source) h))))
-
--- where a guard fails it leads nowhere
-pub edge-blocked : (c : List ℕ) (e : Edge) (r : Row) (p : Row → Bool) → guardsb r (e .guards) ≡ false → true ≡ every p (edge-rows c e r)
-unfolding edge-rows leadsb
-edge-blocked c e r p h =
-    ap (every p) (sym (select-none (leadsb c e r) (rows-at c (e .target)) (λ x. rw h (go (eqb (r .location) (e .source)) (eqb (x .location) (e .target)) (isrowb c x) (placedb c e r x)))))
-  where
-    go : (a b k l : Bool) → (a && b && false && k && l) ≡ false
-    go true true k l = refl
-    go true false k l = refl
-    go false b k l = refl
 
 -- row by row -----------------------------------------------------------------------------------------------------------------------------
 

@@ -30,10 +30,10 @@ use Rattle.tables.specs.Values.{Describes}
 use Rattle.table_records.specs.declared.head.Head.{Head}
 use Rattle.table_files.proofs.Laws.Reading.{parts, tested, took-record}
 use Rattle.calls.specs.RegionFile.{row-width, region-file, rows-read, rows-of, ascending, none-final, rows-checked, lacking, concluded, judged, Permits}
-use Rattle.region_lists.specs.Listed.{listed-row, listed-rows, Listed}
+use Rattle.listed_rows.specs.Listed.{listed-row, listed-rows, Listed}
 use Rattle.region_lists.specs.RegionList.{Told, passed, NextListed}
 use Rattle.calls.proofs.Laws.Rows.{rows-read-law}
-use Rattle.region_lists.proofs.Laws.Listed.{listed-length, listed-in}
+use Rattle.listed_rows.proofs.Laws.Listed.{listed-length, listed-in}
 use Rattle.region_lists.proofs.Laws.ListRecords.{was-good, all-there}
 use Rattle.region_lists.proofs.Laws.ListOrder.{passed-at}
 use Rattle.calls.proofs.Laws.Lacking.{getD-any, full, full-law, lacking-law, nothing-lacking}

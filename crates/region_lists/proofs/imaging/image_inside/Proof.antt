@@ -1,7 +1,7 @@
-use Rattle.region_lists.proofs.Laws.Choosing.{known-covers, known-kept}
-use Rattle.region_lists.proofs.Laws.NextRows.{edge-blocked}
-use Rattle.region_lists.proofs.Laws.Listed.{row-room, listed-again}
-use Rattle.region_lists.specs.Listed.{listed-rows}
+use Rattle.region_lists.proofs.Laws.Turning.{known-covers, known-kept}
+use Rattle.skylines.proofs.Laws.NoNext.{edge-blocked}
+use Rattle.listed_rows.proofs.Laws.Listed.{row-room, listed-again}
+use Rattle.listed_rows.specs.Listed.{listed-rows}
 use Rattle.regions.specs.Values.{bounds-of, edge-of}
 use Rattle.automata.specs.Checks.{every, has}
 use Rattle.automata.specs.Successors.{guardsb, edge-rows}

@@ -1,8 +1,9 @@
-use Rattle.region_lists.proofs.Laws.Choosing.{from-fails, known-none}
-use Rattle.region_lists.proofs.Laws.Together.{one-more}
+use Rattle.region_lists.proofs.Laws.Turning.{from-fails, known-none}
+use Rattle.listed_rows.proofs.Laws.Located.{one-more}
 use Rattle.region_lists.proofs.Laws.NextRows.{next-fails}
-use Rattle.region_lists.specs.Leading.{Leads, Known}
-use Rattle.region_lists.specs.Listed.{listed-rows, listed-row}
+use Rattle.selection.specs.Chosen.{Leads}
+use Rattle.region_lists.specs.Leading.{Known}
+use Rattle.listed_rows.specs.Listed.{listed-rows, listed-row}
 use Rattle.regions.specs.Values.{bounds-of, edge-of}
 use Rattle.automata.specs.Checks.{every, has}
 use Rattle.automata.specs.Successors.{edge-rows}

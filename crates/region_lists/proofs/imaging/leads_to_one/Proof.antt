@@ -1,6 +1,6 @@
 use Rattle.region_lists.proofs.Laws.Sole.{sole-missing, sole-found}
-use Rattle.region_lists.proofs.Laws.NextRows.{edge-blocked}
-use Rattle.region_lists.specs.Listed.{listed-rows}
+use Rattle.skylines.proofs.Laws.NoNext.{edge-blocked}
+use Rattle.listed_rows.specs.Listed.{listed-rows}
 use Rattle.regions.specs.Values.{row-of, edge-of}
 use Rattle.automata.specs.Checks.{has}
 use borrow.Author.Tests.{not-true, not-false}

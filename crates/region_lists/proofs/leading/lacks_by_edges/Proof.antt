@@ -6,7 +6,7 @@ use Rattle.table_files.specs.Admission.{table-of}
 use Rattle.table_records.proofs.Laws.Skips.{skip-none, skip-one}
 use Rattle.tables.specs.Bounds.{edge-start}
 use Rattle.tables.proofs.Laws.Described.{edge-stands, edge-says}
-use Rattle.region_lists.specs.Listed.{listed-rows}
+use Rattle.listed_rows.specs.Listed.{listed-rows}
 use Rattle.region_lists.proofs.Laws.NextRows.{EdgesTo, edges-begin, edges-on, edges-fail, edges-all, edge-there, edge-bounded, edge-rule}
 use borrow.Author.Needs.{needs}
 use Rattle.region_lists.proofs.leading.lacks_by_edges.Statement.{statement}

@@ -1,10 +1,10 @@
 use Rattle.automata.specs.Clocks.{at}
 use Rattle.skylines.specs.Skyline.{member}
-use Rattle.region_lists.proofs.Laws.Choosing.{WalkedTo, walked-fails, walked-none, walked-on, walked-all}
-use Rattle.region_lists.proofs.Laws.Choosing.{WalkedTo, walked-none, walked-on, walked-all}
+use Rattle.region_lists.proofs.Laws.Turning.{WalkedTo, walked-fails, walked-none, walked-on, walked-all}
+use Rattle.region_lists.proofs.Laws.Turning.{WalkedTo, walked-none, walked-on, walked-all}
 use Rattle.region_lists.proofs.Laws.NextRows.{next-fails}
-use Rattle.region_lists.proofs.Laws.Listed.{row-room, listed-again}
-use Rattle.region_lists.specs.Listed.{listed-rows}
+use Rattle.listed_rows.proofs.Laws.Listed.{row-room, listed-again}
+use Rattle.listed_rows.specs.Listed.{listed-rows}
 use Rattle.regions.specs.Values.{bounds-of, edge-of}
 use Rattle.automata.specs.Checks.{every, has}
 use Rattle.automata.specs.Successors.{guardsb, edge-rows}

@@ -1,5 +1,6 @@
-use Rattle.region_lists.proofs.Laws.Choosing.{sided-ends, SidesTo, sides-begin, sides-on, sides-pass, sides-all, sides-fail}
-use Rattle.region_lists.specs.Leading.{Together, RowsIn, FromAll}
+use Rattle.region_lists.proofs.Laws.Turning.{sided-ends, SidesTo, sides-begin, sides-on, sides-pass, sides-all, sides-fail}
+use Rattle.listed_rows.specs.Located.{Together, RowsIn}
+use Rattle.region_lists.specs.Leading.{FromAll}
 use Rattle.automata.specs.Edge.{Edge}
 use mathlib.Core.Path.{sym, ap, subst, _∙_}
 use Prim.Native.Nat.{ℕ, _-_}

@@ -1,5 +1,6 @@
-use Rattle.region_lists.proofs.Laws.Choosing.{sit-wider, Turning, turning-begins, turning-on, turning-ends, walked-from}
-use Rattle.region_lists.specs.Listed.{listed-rows}
+use Rattle.selection.proofs.Laws.Choosing.{sit-wider}
+use Rattle.region_lists.proofs.Laws.Turning.{Turning, turning-begins, turning-on, turning-ends, walked-from}
+use Rattle.listed_rows.specs.Listed.{listed-rows}
 use Rattle.regions.specs.Values.{bounds-of, edge-of}
 use lib.ListN.{length}
 use mathlib.Core.Path.{_≡_}

@@ -1,5 +1,5 @@
 use Rattle.region_lists.proofs.Laws.ListOrder.{NoneFinalTo, final-none, final-on, final-found, final-all}
-use Rattle.region_lists.proofs.Laws.Listed.{row-room}
+use Rattle.listed_rows.proofs.Laws.Listed.{row-room}
 use Rattle.table_files.specs.Admission.{table-of}
 use Rattle.automata.specs.Automaton.{final}
 use mathlib.Core.Path.{sym, ap, _∙_}

@@ -1,6 +1,6 @@
 use Rattle.region_lists.proofs.Laws.ListOrder.{OrderedTo, ordered-none, ordered-on, ordered-fails, ordered-all}
-use Rattle.region_lists.proofs.Laws.Listed.{row-room, listed-again}
-use Rattle.region_lists.specs.Listed.{listed-row}
+use Rattle.listed_rows.proofs.Laws.Listed.{row-room, listed-again}
+use Rattle.listed_rows.specs.Listed.{listed-row}
 use Rattle.automata.specs.Checks.{belowb}
 use borrow.Author.Tests.{not-true, not-false}
 use mathlib.Core.Path.{sym, ap, _∙_}

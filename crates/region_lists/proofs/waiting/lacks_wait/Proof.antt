@@ -1,6 +1,6 @@
 use Rattle.region_lists.proofs.Laws.NextRows.{NextTo, next-begins, next-on, next-fails, next-all}
-use Rattle.region_lists.proofs.Laws.Listed.{row-room, listed-again}
-use Rattle.region_lists.specs.Listed.{listed-rows}
+use Rattle.listed_rows.proofs.Laws.Listed.{row-room, listed-again}
+use Rattle.listed_rows.specs.Listed.{listed-rows}
 use Rattle.automata.specs.Row.{Row}
 use Rattle.automata.specs.Checks.{every, has}
 use Rattle.automata.specs.Successors.{wait-rows}

@@ -1,5 +1,5 @@
 use Rattle.region_lists.proofs.Laws.NextRows.{wait-found, wait-missing}
-use Rattle.region_lists.specs.Listed.{listed-rows}
+use Rattle.listed_rows.specs.Listed.{listed-rows}
 use Rattle.automata.specs.Checks.{has}
 use denote.Ref.{now}
 use borrow.Author.Needs.{needs}

@@ -1,0 +1,2 @@
+-- The laws of counting and visiting an edge's next rows in a list.
+pub mod Laws

@@ -1,0 +1,2 @@
+-- How many rows of a list pass a test.
+pub mod Counted

@@ -1,0 +1,2 @@
+-- The laws of the rows of a list.
+pub mod Laws

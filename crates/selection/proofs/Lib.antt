@@ -1,0 +1,2 @@
+-- The laws of choosing rows.
+pub mod Laws

@@ -1,0 +1,2 @@
+-- Rows that an edge is walked from.
+pub mod Chosen
