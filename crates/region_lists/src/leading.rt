@@ -1,7 +1,5 @@
 // Whether a region list has the rows that the edges lead to from each of its rows: refusal 17.
-ghost use Prim.Native.Nat.{_+_, _*_, _≤_, _<_};
-ghost use lib.ListN.{length};
-ghost use Rattle.automata.specs.Edge.{Bounded};
+ghost use Prim.Native.Nat.{_+_, _<_};
 ghost use Rattle.automata.specs.Closed.{Ascends};
 ghost use Rattle.automata.specs.Successors.{edge-rows};
 ghost use Rattle.automata.specs.Checks.{has};
@@ -12,101 +10,20 @@ ghost use Rattle.listed_rows.specs.Listed.{listed-rows, Listed};
 ghost use Rattle.automata.specs.Next.{by-edges};
 ghost use Rattle.region_lists.specs.RegionList.{NextListed};
 ghost use Rattle.listed_rows.specs.Located.{Together, RowsIn};
-ghost use Rattle.selection.specs.Chosen.{AllSit};
-ghost use Rattle.region_lists.specs.Leading.{Walked, FromAll};
+ghost use Rattle.region_lists.specs.Leading.{Suited, FromAll};
 use crate::imaging::lacks_image;
-use inclusion::inside::leads_inside;
+use crate::walking::lacks_walks;
 use listed_rows::listed::Span;
-use listed_rows::listed::row_at;
 use listed_rows::located::rows_in;
 use regions::edge::Edge;
 use regions::image::is_deterministic;
 use regions::region::Clocks;
-use selection::choosing::choose;
 use skylines::sides::is_choice;
 use skylines::sides::with_sides;
 use table_records::decode::after_edge;
 use table_records::decode::edge_from;
 use table_records::head::Head;
 use tables::admission::first_edge;
-
-// The place of one of the rows that were chosen which lacks a next row by the edge, or 0: it is walked from each.
-fn lacks_from(
-    list: &[u8],
-    clocks: Clocks,
-    count: usize,
-    e: Edge,
-    into: Span,
-    members: &[[u32; 9]],
-    size: usize,
-) -> u16
-    requires { ⌜ Listed clocks (now list) count ⌝ }
-    requires { ⌜ Ascends (listed-rows (clocks .count) (now list) count) ⌝ }
-    requires { ⌜ Bounded (bounds-of clocks) (edge-of (clocks .count) e) ⌝ }
-    requires { ⌜ RowsIn (clocks .count) (now list) count (e .target) (into .start) (into .end) ⌝ }
-    requires { ⌜ size ≤ length (now members) ⌝ }
-    requires { ⌜ AllSit (bounds-of clocks) (edge-of (clocks .count) e) (clocks .count) (now list) 0 count (now members) size ⌝ }
-    ensures { λ r. ⌜ Walked (bounds-of clocks) (edge-of (clocks .count) e) (clocks .count) (now (list .entry)) count (now (members .entry)) size r ⌝ }
-{
-    let n = clocks.count as usize;
-    let mut hint = 2 * count;
-    let mut k = 0;
-    while k < size {
-        let member = members[k];
-        let i = member[8] as usize;
-        let row = row_at(list, n, i);
-        let found = leads_inside(list, clocks, count, e, row, into, hint);
-        if !found.listed {
-            return (i + 1) as u16;
-        }
-        hint = found.at;
-        k += 1;
-    }
-    0
-}
-
-// The place of a row from start to before end that lacks a next row by the edge, or 0. It is walked only from rows that it leads furthest from: as many as
-// there is room for are chosen at a time, and what had to be left out comes the next time.
-fn lacks_walks(
-    list: &[u8],
-    clocks: Clocks,
-    count: usize,
-    e: Edge,
-    into: Span,
-    start: usize,
-    end: usize,
-) -> u16
-    requires { ⌜ Listed clocks (now list) count ⌝ }
-    requires { ⌜ Ascends (listed-rows (clocks .count) (now list) count) ⌝ }
-    requires { ⌜ e .«guard_count» ≤ 8 ⌝ }
-    requires { ⌜ Bounded (bounds-of clocks) (edge-of (clocks .count) e) ⌝ }
-    requires { ⌜ RowsIn (clocks .count) (now list) count (e .target) (into .start) (into .end) ⌝ }
-    requires { ⌜ Together (clocks .count) (now list) count start (e .source) end ⌝ }
-    ensures { λ r. ⌜ FromAll (bounds-of clocks) (edge-of (clocks .count) e) (clocks .count) (now (list .entry)) count start end r ⌝ }
-{
-    let none = [0; 9];
-    let mut members = [none; 64];
-    let mut taken = [false; 4096];
-    let mut from = start;
-    while from < end {
-        let chosen = choose(
-            list,
-            clocks,
-            count,
-            e,
-            from,
-            end,
-            &mut taken[..],
-            &mut members[..],
-        );
-        let place = lacks_from(list, clocks, count, e, into, &members[..], chosen.size);
-        if place != 0 {
-            return place;
-        }
-        from = chosen.next;
-    }
-    0
-}
 
 // The place of a row from start to before end that lacks a next row by the edge, or 0. Where it asks for any value but a clock's, it is taken by its sides,
 // one choice after the other: by one side it leads no further from many rows, by both from none.
@@ -119,10 +36,7 @@ fn lacks_sides(
     start: usize,
     end: usize,
 ) -> u16
-    requires { ⌜ Listed clocks (now list) count ⌝ }
-    requires { ⌜ Ascends (listed-rows (clocks .count) (now list) count) ⌝ }
-    requires { ⌜ e .«guard_count» ≤ 8 ⌝ }
-    requires { ⌜ Bounded (bounds-of clocks) (edge-of (clocks .count) e) ⌝ }
+    requires { ⌜ Suited clocks (now list) count e ⌝ }
     requires { ⌜ RowsIn (clocks .count) (now list) count (e .target) (into .start) (into .end) ⌝ }
     requires { ⌜ Together (clocks .count) (now list) count start (e .source) end ⌝ }
     ensures { λ r. ⌜ FromAll (bounds-of clocks) (edge-of (clocks .count) e) (clocks .count) (now (list .entry)) count start end r ⌝ }
@@ -143,10 +57,7 @@ fn lacks_sides(
 
 // The place of a row that lacks a next row by this edge, or 0. Rows ascend, so those in the edge's source location stand together.
 fn lacks_by_edge(list: &[u8], clocks: Clocks, count: usize, e: Edge) -> u16
-    requires { ⌜ Listed clocks (now list) count ⌝ }
-    requires { ⌜ Ascends (listed-rows (clocks .count) (now list) count) ⌝ }
-    requires { ⌜ e .«guard_count» ≤ 8 ⌝ }
-    requires { ⌜ Bounded (bounds-of clocks) (edge-of (clocks .count) e) ⌝ }
+    requires { ⌜ Suited clocks (now list) count e ⌝ }
     ensures { λ r. ⌜ NextListed (edge-rows (bounds-of clocks) (edge-of (clocks .count) e)) (listed-rows (clocks .count) (now (list .entry)) count) r ⌝ }
 {
     let from = rows_in(list, clocks, count, e.source);

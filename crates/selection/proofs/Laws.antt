@@ -1,2 +1,3 @@
 -- The laws of choosing rows.
 pub mod Choosing
+pub mod Grouping

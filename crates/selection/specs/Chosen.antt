@@ -1,5 +1,5 @@
 -- Rows of a list that an edge is walked from, and what they tell of the others. Assumes nothing.
-use Prim.Native.Nat.{ℕ, _≤_, _<_}
+use Prim.Native.Nat.{ℕ, suc, _≤_, _<_}
 use mathlib.Core.Path.{_≡_}
 use mathlib.Core.Bool.{Bool, true, false}
 use mathlib.Core.Logic.{_⊎_}
@@ -56,3 +56,32 @@ pub record Chooses (c : List ℕ) (e : Edge) (n : ℕ) (list : List ℕ) (lo hi 
   pub within : next ≤ hi
   pub taken : (j : ℕ) → lo ≤ j → j < next → taken-at ts′ j ≡ true
   pub lead : (p : Row → Bool) → AllLead c e n list p ms size → (j : ℕ) → lo ≤ j → j < hi → taken-at ts′ j ≡ true → (taken-at ts j ≡ true) ⊎ Leads c e n list p j
+
+-- rows that slots hold ----------------------------------------------------------------------------------------------------------
+
+-- row j is one from lo to before hi that the edge can be taken from
+pub record Offered (e : Edge) (n : ℕ) (list : List ℕ) (lo hi j : ℕ) : Type 0 where
+  pub from : lo ≤ j
+  pub to : j < hi
+  pub located : listed-row n list j .location ≡ e .source
+  pub guarded : guardsb (listed-row n list j) (e .guards) ≡ true
+
+-- so is each row that a slot holds; a slot with 0 holds none, one with j + 1 row j
+abbrev pub AllHeld : Edge → ℕ → List ℕ → ℕ → ℕ → List ℕ → Type 0
+AllHeld e n list lo hi slots = (k j : ℕ) → k < 1024 → at slots k ≡ suc j → Offered e n list lo hi j
+
+-- all rows that the edge leads to from the rows that slots hold pass a test
+abbrev pub HeldLead : List ℕ → Edge → ℕ → List ℕ → (Row → Bool) → List ℕ → Type 0
+HeldLead c e n list p slots = (k j : ℕ) → k < 1024 → at slots k ≡ suc j → Leads c e n list p j
+
+-- row i is offered to the slots, unless it is taken already: what passes from all that they hold then passes from all that they held, and from row i if it is
+-- taken now
+pub record Lodges (c : List ℕ) (e : Edge) (n : ℕ) (list : List ℕ) (lo hi i : ℕ) (already : Bool) (slots slots′ : List ℕ) (taken : Bool) : Type 0 where
+  pub held : AllHeld e n list lo hi slots′
+  pub lead : (p : Row → Bool) → HeldLead c e n list p slots′ → HeldLead c e n list p slots
+  pub covers : (p : Row → Bool) → HeldLead c e n list p slots′ → taken ≡ true → (already ≡ true) ⊎ Leads c e n list p i
+
+-- rows from lo to before hi were offered to the slots: what passes from the rows that they hold passes from all that are newly taken
+pub record Groups (c : List ℕ) (e : Edge) (n : ℕ) (list : List ℕ) (lo hi : ℕ) (ts ts′ : List Bool) (slots : List ℕ) : Type 0 where
+  pub held : AllHeld e n list lo hi slots
+  pub lead : (p : Row → Bool) → HeldLead c e n list p slots → (j : ℕ) → lo ≤ j → j < hi → taken-at ts′ j ≡ true → (taken-at ts j ≡ true) ⊎ Leads c e n list p j

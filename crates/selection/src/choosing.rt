@@ -20,30 +20,6 @@ pub struct Chosen {
     pub next: usize,
 }
 
-// A number for the ends that a reach asks to be the same: those of clocks that are kept, or given one value.
-fn group(reach: [u32; 9]) -> u32
-    ensures { λ r. ⌜ r < 64 ⌝ }
-{
-    let mut sum = 0;
-    let mut z = 0;
-    while z < 4 {
-        if reach[z] == reach[4 + z] {
-            sum = (11 * sum + reach[z] % 1024) % 64;
-        }
-        z += 1;
-    }
-    sum
-}
-
-// Whether a reach had better wait for another turn: where many are chosen, one of another group than the first is within none of that group, nor the
-// other way round, so that to compare them would be in vain. Either answer would be right.
-fn is_apart(size: usize, first: [u32; 9], own: [u32; 9]) -> bool {
-    if size < 48 {
-        return false;
-    }
-    group(first) != group(own)
-}
-
 // Offers row i to those that are chosen so far. One that is taken already, or from where the edge cannot be taken, is none to choose.
 fn offer(
     list: &[u8],
@@ -79,15 +55,6 @@ fn offer(
         };
     }
     let own = reach_of(clocks, e, row, i as u32);
-    let first = members[0];
-    if size != 0 {
-        if is_apart(size, first, own) {
-            return Seating {
-                size: size,
-                seated: false,
-            };
-        }
-    }
     seat(members, n, size, own)
 }
 

@@ -29,14 +29,33 @@ fn is_covered(members: &[[u32; 9]], n: usize, size: usize, own: [u32; 9]) -> boo
     false
 }
 
+// How many of the first so many stand before one that lies within one's own: they need not be moved. Most often these are all. Any number of them would be
+// right.
+fn before_covered(members: &[[u32; 9]], n: usize, size: usize, own: [u32; 9]) -> usize
+    requires { ⌜ n ≤ 4 ⌝ }
+    requires { ⌜ size ≤ length (now members) ⌝ }
+    ensures { λ r. ⌜ r ≤ size ⌝ }
+{
+    let mut k = 0;
+    while k < size {
+        let other = members[k];
+        if is_within(n, other, own) {
+            return k;
+        }
+        k += 1;
+    }
+    k
+}
+
 // Drops those of the first so many that lie within one's own, and tells how many are left.
 fn drop_covered(members: &mut [[u32; 9]], n: usize, size: usize, own: [u32; 9]) -> usize
     requires { ⌜ n ≤ 4 ⌝ }
     requires { ⌜ size ≤ length (now members) ⌝ }
     ensures { λ r. ⌜ Drops n own (now (members .entry)) size (now (members .exit)) r ⌝ }
 {
-    let mut kept = 0;
-    let mut k = 0;
+    let first = before_covered(members, n, size, own);
+    let mut kept = first;
+    let mut k = first;
     while k < size {
         let other = members[k];
         if !is_within(n, other, own) {

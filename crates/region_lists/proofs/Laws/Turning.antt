@@ -21,8 +21,8 @@ use Rattle.skylines.specs.Sides.{sided, is-choice}
 use Rattle.skylines.proofs.Laws.Sides.{sides-every}
 use Rattle.listed_rows.specs.Listed.{listed-row, listed-rows}
 use Rattle.region_lists.specs.RegionList.{NextListed}
-use Rattle.selection.specs.Chosen.{Leads, Sits, AllLead, taken-at, Chooses}
-use Rattle.region_lists.specs.Leading.{Walked, FromAll, Known}
+use Rattle.selection.specs.Chosen.{Leads, Sits, AllLead, taken-at, Chooses, Groups}
+use Rattle.region_lists.specs.Leading.{Walked, HeldWalked, Grouped, FromAll, Known}
 use Rattle.listed_rows.proofs.Laws.Listed.{listed-length, listed-at}
 use Rattle.selection.proofs.Laws.Choosing.{none-taken, sits-own, further}
 
@@ -46,6 +46,43 @@ module _ (c : List ℕ) (e : Edge) (n : ℕ) (list : List ℕ) where
 
     pub walked-all : (k : ℕ) → WalkedTo k → size ≤ k → Walked c e n list count ms size 0
     walked-all k W h j l = W .so-far j (omega arith)
+
+  -- the rows that slots hold are walked from ------------------------------------------------------------------------------------------------
+
+  module _ (count : ℕ) (slots : List ℕ) where
+    -- those of the first k slots lead into the list
+    pub record HeldTo (k : ℕ) : Type 0 where
+      pub so-far : (m j : ℕ) → m < k → at slots m ≡ suc j → Leads c e n list (has (listed-rows n list count)) j
+
+    pub held-none : HeldTo 0
+    held-none = record { so-far = λ m j l. absurd (omega arith) }
+
+    held-next : (k : ℕ) → HeldTo k → ((j : ℕ) → at slots k ≡ suc j → Leads c e n list (has (listed-rows n list count)) j) → HeldTo (k + 1)
+    held-next k H h = record { so-far = λ m j l q. go m j l q (ℕ-discrete m k) }
+      where
+        go : (m j : ℕ) → m < k + 1 → at slots m ≡ suc j → Dec (m ≡ k) → Leads c e n list (has (listed-rows n list count)) j
+        go m j l q (yes z) = h j (ap (at slots) (sym z) ∙ q)
+        go m j l q (no z) = H .so-far m j (omega arith) q
+
+    -- the next one is empty
+    pub held-empty : (k : ℕ) → HeldTo k → at slots k ≡ 0 → HeldTo (k + 1)
+    held-empty k H z = held-next k H (λ j q. absurd (omega (arith, q, z)))
+
+    -- .. or holds row i
+    pub held-on : (k i : ℕ) → HeldTo k → at slots k ≡ suc i → Leads c e n list (has (listed-rows n list count)) i → HeldTo (k + 1)
+    held-on k i H g h = held-next k H (λ j q. (let z : j ≡ i = omega (arith, q, g) in rw z h))
+
+    pub held-all : (k : ℕ) → HeldTo k → 1024 ≤ k → HeldWalked c e n list count slots 0
+    held-all k H h m j l q = H .so-far m j (omega arith) q
+
+    pub held-fails : (place i : ℕ) → place ≡ suc i → NextListed (edge-rows c e) (listed-rows n list count) (i + 1) → HeldWalked c e n list count slots place
+    held-fails place i q h = rw q (rw add-one at h)
+
+    -- what they tell of the rows that were offered to them
+    pub grouped-held : (lo hi : ℕ) (ts ts′ : List Bool) → Groups c e n list lo hi ts ts′ slots → (place : ℕ) → HeldWalked c e n list count slots place
+        → Grouped c e n list count lo hi ts ts′ place
+    grouped-held lo hi ts ts′ G zero h = G .lead (has (listed-rows n list count)) h
+    grouped-held lo hi ts ts′ G (suc i) h = h
 
   -- as many as there is room for at a time ------------------------------------------------------------------------------------------------
 
@@ -84,6 +121,18 @@ module _ (c : List ℕ) (e : Edge) (n : ℕ) (list : List ℕ) where
           earlier : (j : ℕ) → start ≤ j → j < next → Dec (j < from) → Leads c e n list p j
           earlier j a b (yes k) = T .before j a k
           earlier j a b (no k) = chosen j (omega arith) (omega (arith, C .within)) (C .taken j (omega arith) b)
+
+    -- rows of groups are taken too
+    pub turning-grouped : (from : ℕ) (ts ts′ : List Bool) → Turning from ts → Grouped c e n list count from end ts ts′ 0 → Turning from ts′
+    turning-grouped from ts ts′ T G = record { after = T .after; within = T .within; before = T .before; taken = λ j a b t. go j a b (G j a b t) }
+      where
+        go : (j : ℕ) → from ≤ j → j < end → (taken-at ts j ≡ true) ⊎ Leads c e n list p j → Leads c e n list p j
+        go j a b (inl k) = T .taken j a b k
+        go j a b (inr k) = k
+
+    pub grouped-from : (lo : ℕ) (ts ts′ : List Bool) (place : ℕ) → (place ≡ 0 → ⊥) → Grouped c e n list count lo end ts ts′ place → FromAll c e n list count start end place
+    grouped-from lo ts ts′ zero z h = absurd (z refl)
+    grouped-from lo ts ts′ (suc i) z h = h
 
     pub turning-ends : (from : ℕ) (ts : List Bool) → Turning from ts → end ≤ from → FromAll c e n list count start end 0
     turning-ends from ts T h j a b = T .before j a (omega arith)

@@ -64,10 +64,6 @@ module _ (c : List ℕ) (e : Edge) (n : ℕ) (list : List ℕ) where
       offers-blocked g =
           record { room = room; sit = sit; lead = λ p h. h; covers = λ p h s. inr (sym (edge-blocked c e (listed-row n list i) p g)); first = λ z. refl }
 
-      -- it waits for another turn
-      pub offers-later : (size ≡ 0 → ⊥) → Offers c e n list lo hi i already ms size ms size false
-      offers-later z = record { room = room; sit = sit; lead = λ p h. h; covers = λ p h s. never s; first = λ q. absurd (z q) }
-
       -- it is seated, or there is no room
       module _ (own : List ℕ) (ms′ : List (List ℕ)) (size′ : ℕ) (seated : Bool) (S : Seats n own ms size ms′ size′ seated) (from : lo ≤ i) (to : i < hi)
           (located : listed-row n list i .location ≡ e .source) (guarded : guardsb (listed-row n list i) (e .guards) ≡ true) (reach : ReachOf c e (listed-row n list i) i own) where

@@ -63,14 +63,14 @@ module _ (n : ℕ) (own : List ℕ) (start : List (List ℕ)) (size : ℕ) where
     pub unmoved : kept ≡ k → (j : ℕ) → j < k → member ms j ≡ member start j
     pub rest : (j : ℕ) → k ≤ j → member ms j ≡ member start j
 
-  pub dropping-begins : Dropping 0 0 start
-  dropping-begins =
+  pub dropping-begins : (first : ℕ) → first ≤ size → Dropping first first start
+  dropping-begins first l =
       record {
-        within = omega arith;
+        within = l;
         fewer = omega arith;
         long = refl;
-        none-new = λ i h. absurd (omega arith);
-        none-lost = λ j h. absurd (omega arith);
+        none-new = λ i h. (i, h, refl);
+        none-lost = λ j h. inr (j, h, refl);
         unmoved = λ e j h. refl;
         rest = λ j h. refl;
       }

@@ -13,19 +13,19 @@ is-deterministic-requires : tie.Need-is-deterministic-requires
 is-deterministic-requires c κs = search needs
 
 lacks-image-requires : tie.Need-lacks-image-requires
-lacks-image-requires c κs = let p = c .before .before .before .before .pre in (p .0, (p .1 .0, (p .1 .1 .0, (p .1 .1 .1, (sym (c .before .is-deterministic .ensures) ∙ c .if1 .taken, c .before .before .rows-in .ensures .together)))))
+lacks-image-requires c κs = let p = c .before .before .before .before .pre in (p .listed, (p .ascends, (p .few-guards, (p .bounded, (sym (c .before .is-deterministic .ensures) ∙ c .if1 .taken, c .before .before .rows-in .ensures .together)))))
 
 returns : tie.Need-returns
-returns c = let a = c .before .before .before .before .before .args in let p = c .before .before .before .before .before .pre in let k = a .clocks .count in from-all k (now (a .list)) (a .count) (bounds-of (a .clocks)) (edge-of k (a .e)) _ _ (c .before .before .before .rows-in .ensures .starts) (c .before .before .before .rows-in .ensures .together) (p .1 .0) (c .lacks-image .result) (c .lacks-image .ensures)
+returns c = let a = c .before .before .before .before .before .args in let p = c .before .before .before .before .before .pre in let k = a .clocks .count in from-all k (now (a .list)) (a .count) (bounds-of (a .clocks)) (edge-of k (a .e)) _ _ (c .before .before .before .rows-in .ensures .starts) (c .before .before .before .rows-in .ensures .together) (p .ascends) (c .lacks-image .result) (c .lacks-image .ensures)
 
 rows-in-requires-2 : tie.Need-rows-in-requires-2
 rows-in-requires-2 c κs = search needs
 
 lacks-sides-requires : tie.Need-lacks-sides-requires
-lacks-sides-requires c κs = let p = c .before .before .before .before .before .pre in (p .0, (p .1 .0, (p .1 .1 .0, (p .1 .1 .1, (c .rows-in2 .ensures, c .before .before .before .rows-in .ensures .together)))))
+lacks-sides-requires c κs = let p = c .before .before .before .before .before .pre in (p, (c .rows-in2 .ensures, c .before .before .before .rows-in .ensures .together))
 
 returns-2 : tie.Need-returns-2
-returns-2 c = let a = c .before .before .before .before .before .before .args in let p = c .before .before .before .before .before .before .pre in let k = a .clocks .count in from-all k (now (a .list)) (a .count) (bounds-of (a .clocks)) (edge-of k (a .e)) _ _ (c .before .before .before .before .rows-in .ensures .starts) (c .before .before .before .before .rows-in .ensures .together) (p .1 .0) (c .lacks-sides .result) (c .lacks-sides .ensures)
+returns-2 c = let a = c .before .before .before .before .before .before .args in let p = c .before .before .before .before .before .before .pre in let k = a .clocks .count in from-all k (now (a .list)) (a .count) (bounds-of (a .clocks)) (edge-of k (a .e)) _ _ (c .before .before .before .before .rows-in .ensures .starts) (c .before .before .before .before .rows-in .ensures .together) (p .ascends) (c .lacks-sides .result) (c .lacks-sides .ensures)
 
 pub lacks-by-edge-spec : {M : Type 1} → statement M
 lacks-by-edge-spec =

@@ -37,7 +37,7 @@ lacks-by-edge-requires c κs = let a = c .before .before .before .before .before
     let l = c .before .before .before .loop in
     let k = c .before .if1 .taken in
     let s = c .edge-from .ensures .0 ∙ edge-says (now (a .table)) (a .head) (p .0) (l .k) k (l .inv .1) in
-    (p .1 .0, (p .1 .1, (c .edge-from .ensures .1, edge-bounded (now (a .table)) (a .head) (p .0) (l .k) k (c .edge-from .result) s)))
+    record { listed = p .1 .0; ascends = p .1 .1; few-guards = c .edge-from .ensures .1; bounded = edge-bounded (now (a .table)) (a .head) (p .0) (l .k) k (c .edge-from .result) s }
 
 returns : tie.Need-returns Inv-loop μ-loop
 returns c = let a = c .before .before .before .before .before .before .before .before .before .before .args in

@@ -1,4 +1,4 @@
-use Rattle.selection.proofs.Laws.Choosing.{offers-taken, offers-blocked, offers-later, offers-seat}
+use Rattle.selection.proofs.Laws.Choosing.{offers-taken, offers-blocked, offers-seat}
 use Rattle.listed_rows.proofs.Laws.Listed.{row-room, listed-again}
 use Rattle.regions.specs.Values.{bounds-of, edge-of}
 use Rattle.automata.specs.Successors.{guardsb}
@@ -32,23 +32,14 @@ cast-reach-of c = search needs
 reach-of-requires : tie.Need-reach-of-requires
 reach-of-requires c κs = search needs
 
-slice-copy-out-first : tie.Need-slice-copy-out-first
-slice-copy-out-first c = search needs
-
-is-apart-requires : tie.Need-is-apart-requires
-is-apart-requires c κs = search needs
-
-returns-3 : tie.Need-returns-3
-returns-3 c = let a = c .before .before .before .before .before .before .before .before .before .before .before .args in let p = c .before .before .before .before .before .before .before .before .before .before .before .pre in let k = a .clocks .count in let e = edge-of k (a .e) in let cs = bounds-of (a .clocks) in λ lo hi from to in-list sit. offers-later cs e k (now (a .list)) lo hi (p .0 .sized) (p .0 .few .few) (λ j h. p .0 .are-rows j (omega arith)) (a .i) (a .already) (now (a .members)) (a .size) sit (p .1 .1 .1 .1 .1 .1) (c .before .before .if3 .taken)
-
 seat-requires : tie.Need-seat-requires
 seat-requires c κs = search needs
 
 same-length : tie.Need-same-length
 same-length c = search needs
 
-returns-4 : tie.Need-returns-4
-returns-4 c = let a = c .before .before .before .before .before .before .before .before .before .before .before .before .args in let p = c .before .before .before .before .before .before .before .before .before .before .before .before .pre in let k = a .clocks .count in let e = edge-of k (a .e) in let cs = bounds-of (a .clocks) in λ lo hi from to in-list sit. offers-seat cs e k (now (a .list)) lo hi (p .0 .sized) (p .0 .few .few) (λ j h. p .0 .are-rows j (omega arith)) (a .i) (a .already) (now (a .members)) (a .size) sit (p .1 .1 .1 .1 .1 .1) _ _ _ _ (c .before .seat .ensures) from to (p .1 .1 .1 .1 .0) (ap (λ (r : Row). guardsb r (e .guards)) (sym (listed-again k (now (a .list)) _ _ (c .before .before .before .before .before .before .before .before .row-at .ensures))) ∙ sym (c .before .before .before .before .before .before .before .guards-hold .ensures) ∙ not-false _ (c .before .before .before .before .before .before .if2 .left)) (rw (listed-again k (now (a .list)) _ _ (c .before .before .before .before .before .before .before .before .row-at .ensures)) at (c .before .before .before .before .before .reach-of .ensures))
+returns-3 : tie.Need-returns-3
+returns-3 c = let a = c .before .before .before .before .before .before .before .before .before .before .args in let p = c .before .before .before .before .before .before .before .before .before .before .pre in let k = a .clocks .count in let e = edge-of k (a .e) in let cs = bounds-of (a .clocks) in λ lo hi from to in-list sit. offers-seat cs e k (now (a .list)) lo hi (p .0 .sized) (p .0 .few .few) (λ j h. p .0 .are-rows j (omega arith)) (a .i) (a .already) (now (a .members)) (a .size) sit (p .1 .1 .1 .1 .1 .1) _ _ _ _ (c .before .seat .ensures) from to (p .1 .1 .1 .1 .0) (ap (λ (r : Row). guardsb r (e .guards)) (sym (listed-again k (now (a .list)) _ _ (c .before .before .before .before .before .before .row-at .ensures))) ∙ sym (c .before .before .before .before .before .guards-hold .ensures) ∙ not-false _ (c .before .before .before .before .if2 .left)) (rw (listed-again k (now (a .list)) _ _ (c .before .before .before .before .before .before .row-at .ensures)) at (c .before .before .before .reach-of .ensures))
 
 pub offer-spec : {M : Type 1} → statement M
 offer-spec =
@@ -61,9 +52,6 @@ offer-spec =
     returns-2
     cast-reach-of
     reach-of-requires
-    slice-copy-out-first
-    is-apart-requires
-    returns-3
     seat-requires
     same-length
-    returns-4)
+    returns-3)

@@ -6,61 +6,49 @@ use borrow.Author.Tests.{not-true, not-false}
 use borrow.Author.Needs.{needs}
 use Rattle.skylines.proofs.skyline.drop_covered.Statement.{statement}
 use Rattle.skylines.proofs.skyline.drop_covered.Tie as tie
-use Rattle.skylines.proofs.skyline.drop_covered.Reads as reads
-use Rattle.skylines.proofs.skyline.drop_covered.Lts as lts
-use Rattle.skylines.proofs.reach.is_within.Reads as is-within-reads
 
 abbrev Inv-loop : tie.InvT-loop
-Inv-loop members₀ n size own kept₀ k₀ members kept k = Dropping n own members₀ size k kept members
+Inv-loop members₀ n size own first kept₀ k₀ members kept k = Dropping n own members₀ size k kept members
 
 abbrev μ-loop : tie.MeasureT-loop
-μ-loop members₀ n size own kept₀ k₀ members kept k = size - k
+μ-loop members₀ n size own first kept₀ k₀ members kept k = size - k
 
--- src/skyline.rt:40:5
+before-covered-requires : tie.Need-before-covered-requires Inv-loop μ-loop
+before-covered-requires c κs = search needs
+
 loop-holds : tie.Need-loop-holds Inv-loop μ-loop
-loop-holds c = dropping-begins _ _ _ _
+loop-holds c = dropping-begins _ _ _ _ _ (c .before-covered .ensures)
 
--- src/skyline.rt:41:21
 mul-other : tie.Need-mul-other Inv-loop μ-loop
 mul-other c = search needs
 
--- src/skyline.rt:41:21
 slice-copy-out-other : tie.Need-slice-copy-out-other Inv-loop μ-loop
 slice-copy-out-other c = search needs
 
--- src/skyline.rt:42:13
 is-within-requires : tie.Need-is-within-requires Inv-loop μ-loop
 is-within-requires c κs = search needs
 
--- src/skyline.rt:43:13
 mul-other-2 : tie.Need-mul-other-2 Inv-loop μ-loop
 mul-other-2 c = search needs
 
--- src/skyline.rt:43:13
 slice-set-from-other : tie.Need-slice-set-from-other Inv-loop μ-loop
 slice-set-from-other c = search needs
 
--- src/skyline.rt:44:13
 add-kept : tie.Need-add-kept Inv-loop μ-loop
 add-kept c = search needs
 
--- src/skyline.rt:46:9
 add-k : tie.Need-add-k Inv-loop μ-loop
 add-k c = search needs
 
--- src/skyline.rt:40:5
 loop-less : tie.Need-loop-less Inv-loop μ-loop
 loop-less c = search needs
 
--- src/skyline.rt:40:5
 loop-again : tie.Need-loop-again Inv-loop μ-loop
-loop-again c = by-cases (λ t. rw (t .1, t .2) (dropping-keeps _ _ _ _ _ _ _ (c .before .before .before .before .loop .inv) (c .before .before .before .loop-test .taken) (c .before .before .before .before .before .pre .1))) (λ t. rw (t .1, t .2) (dropping-drops _ _ _ _ _ _ _ (c .before .before .before .before .loop .inv) (c .before .before .before .loop-test .taken) (sym (c .before .is-within .ensures) ∙ not-false _ (t .0 .left)))) (c .if1 .came)
+loop-again c = by-cases (λ t. rw (t .1, t .2) (dropping-keeps _ _ _ _ _ _ _ (c .before .before .before .before .loop .inv) (c .before .before .before .loop-test .taken) (c .before .before .before .before .before .before .before .pre .1))) (λ t. rw (t .1, t .2) (dropping-drops _ _ _ _ _ _ _ (c .before .before .before .before .loop .inv) (c .before .before .before .loop-test .taken) (sym (c .before .is-within .ensures) ∙ not-false _ (t .0 .left)))) (c .if1 .came)
 
--- src/skyline.rt:33:1
 same-length : tie.Need-same-length Inv-loop μ-loop
 same-length c = c .before .loop .inv .long
 
--- src/skyline.rt:33:1
 returns : tie.Need-returns Inv-loop μ-loop
 returns c = dropping-all _ _ _ _ _ _ _ (c .before .loop .inv) (c .loop-test .left)
 
@@ -70,6 +58,7 @@ drop-covered-spec =
     (tie.spec
     Inv-loop
     μ-loop
+    before-covered-requires
     loop-holds
     mul-other
     slice-copy-out-other

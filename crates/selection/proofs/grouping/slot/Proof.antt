@@ -2,11 +2,11 @@ use mathlib.Core.Logic.{⊎-elim}
 use native.Mathlib.Omega.{arith}
 use Prim.Native.Nat.{_-_, _≤_, _<_}
 use borrow.Author.Needs.{needs}
-use Rattle.selection.proofs.choosing.group.Statement.{statement}
-use Rattle.selection.proofs.choosing.group.Tie as tie
+use Rattle.selection.proofs.grouping.slot.Statement.{statement}
+use Rattle.selection.proofs.grouping.slot.Tie as tie
 
 abbrev Inv-loop : tie.InvT-loop
-Inv-loop reach sum₀ z₀ sum z = (sum < 64) × (z ≤ 4)
+Inv-loop reach sum₀ z₀ sum z = (sum < 1024) × (z ≤ 4)
 
 abbrev μ-loop : tie.MeasureT-loop
 μ-loop reach sum₀ z₀ sum z = 4 - z
@@ -50,11 +50,14 @@ loop-less c = search needs
 loop-again : tie.Need-loop-again Inv-loop μ-loop
 loop-again c = let l = c .before .loop-test .taken in ⊎-elim (λ w. (omega (arith, w .1), omega (arith, l))) (λ w. (omega (arith, w .1, c .before .before .loop .inv .0), omega (arith, l))) (c .if1 .came)
 
+cast-result : tie.Need-cast-result Inv-loop μ-loop
+cast-result c = search needs
+
 returns : tie.Need-returns Inv-loop μ-loop
 returns c = search needs
 
-pub group-spec : {M : Type 1} → statement M
-group-spec =
+pub slot-spec : {M : Type 1} → statement M
+slot-spec =
     tie.close
     (tie.spec
     Inv-loop
@@ -72,4 +75,5 @@ group-spec =
     add-z
     loop-less
     loop-again
+    cast-result
     returns)
