@@ -16,6 +16,7 @@ use listed_rows::listed::row_at;
 use regions::edge::Edge;
 use regions::region::Clocks;
 use selection::choosing::choose;
+use selection::grouping::has_groups;
 use selection::grouping::lodge_all;
 
 // Whether the edge leads into the list from row i, which it can be taken from.
@@ -111,7 +112,7 @@ fn lacks_groups(
     requires { ⌜ length (now taken) ≡ 4096 ⌝ }
     ensures { λ r. ⌜ Grouped (bounds-of clocks) (edge-of (clocks .count) e) (clocks .count) (now (list .entry)) count start end (now (taken .entry)) (now (taken .exit)) r ⌝ }
 {
-    if start == end {
+    if !has_groups(clocks, e) {
         return 0;
     }
     let mut slots = [0u16; 1024];
@@ -119,8 +120,8 @@ fn lacks_groups(
     lacks_held(list, clocks, count, e, into, &slots)
 }
 
-// The place of a row from start to before end that lacks a next row by the edge, or 0. It is walked only from rows that it leads furthest from: as many as
-// there is room for are chosen at a time, then one of each group, and what had to be left out comes the next time.
+// The place of a row from start to before end that lacks a next row by the edge, or 0. It is walked only from rows that it leads furthest from: one of
+// each group, then as many of the others as there is room for, and what had to be left out comes the next time.
 pub fn lacks_walks(
     list: &[u8],
     clocks: Clocks,
@@ -140,6 +141,10 @@ pub fn lacks_walks(
     let mut taken = [false; 4096];
     let mut from = start;
     while from < end {
+        let lacking = lacks_groups(list, clocks, count, e, into, from, end, &mut taken[..]);
+        if lacking != 0 {
+            return lacking;
+        }
         let chosen = choose(
             list,
             clocks,
@@ -155,10 +160,6 @@ pub fn lacks_walks(
             return place;
         }
         from = chosen.next;
-        let lacking = lacks_groups(list, clocks, count, e, into, from, end, &mut taken[..]);
-        if lacking != 0 {
-            return lacking;
-        }
     }
     0
 }

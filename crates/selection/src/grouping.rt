@@ -8,10 +8,38 @@ ghost use Rattle.regions.specs.Values.{bounds-of, edge-of};
 ghost use Rattle.listed_rows.specs.Listed.{listed-row, Listed};
 ghost use Rattle.selection.specs.Chosen.{AllHeld, Lodges, Groups};
 use listed_rows::listed::row_at;
+use regions::comparison;
+use regions::edge::Action;
 use regions::edge::Edge;
 use regions::region::Clocks;
 use skylines::reach::is_within;
 use skylines::reach::reach_of;
+
+// Whether an update asks for one value of another clock, or of its own.
+fn asks_for_one(a: Action, comparison: u8) -> bool {
+    match a {
+        Action::Keep => true,
+        Action::Constant(_) => false,
+        Action::Clock(_, _, _) => comparison == comparison::EQUAL,
+    }
+}
+
+// Whether an edge has more groups than one. Either answer would be right.
+pub fn has_groups(clocks: Clocks, e: Edge) -> bool
+    requires { ⌜ clocks .count ≤ 4 ⌝ }
+{
+    let n = clocks.count as usize;
+    let mut z = 0;
+    while z < n {
+        let update = e.updates[z];
+        let action = update.action;
+        if asks_for_one(action, update.comparison) {
+            return true;
+        }
+        z += 1;
+    }
+    false
+}
 
 // The slot of a reach: a number for the ends that it asks to be the same. Two groups may come to have one slot; any slot would be right.
 fn slot(reach: [u32; 9]) -> usize

@@ -15,6 +15,9 @@ use borrow.Author.Needs.{needs}
 use Rattle.region_lists.proofs.walking.lacks_groups.Statement.{statement}
 use Rattle.region_lists.proofs.walking.lacks_groups.Tie as tie
 
+has-groups-requires : tie.Need-has-groups-requires
+has-groups-requires c κs = c .before .before .pre .0 .listed .few .few
+
 returns : tie.Need-returns
 returns c = λ j h l t. inl t
 
@@ -22,24 +25,25 @@ slice-aggregate-lodge-all : tie.Need-slice-aggregate-lodge-all
 slice-aggregate-lodge-all c = search needs
 
 lodge-all-requires : tie.Need-lodge-all-requires
-lodge-all-requires c κs = let a = c .before .before .before .before .before .args in let p = c .before .before .before .before .before .pre in let n = a .clocks .count in let e = edge-of n (a .e) in let cs = bounds-of (a .clocks) in let list = now (a .list) in let rows = listed-rows n list (a .count) in (p .0 .listed, (p .0 .few-guards, (p .0 .bounded, (p .1 .1 .0, (p .1 .1 .1 .0, (p .1 .1 .1 .1, (search needs, none-held e n list (a .start) (a .end) 1024)))))))
+lodge-all-requires c κs = let a = c .before .before .before .before .before .before .args in let p = c .before .before .before .before .before .before .pre in let n = a .clocks .count in let e = edge-of n (a .e) in let cs = bounds-of (a .clocks) in let list = now (a .list) in let rows = listed-rows n list (a .count) in (p .0 .listed, (p .0 .few-guards, (p .0 .bounded, (p .1 .1 .0, (p .1 .1 .1 .0, (p .1 .1 .1 .1, (search needs, none-held e n list (a .start) (a .end) 1024)))))))
 
 slice-aggregate-lacks-held : tie.Need-slice-aggregate-lacks-held
 slice-aggregate-lacks-held c = search needs
 
 lacks-held-requires : tie.Need-lacks-held-requires
-lacks-held-requires c κs = let a = c .before .before .before .before .before .before .before .before .before .before .args in let p = c .before .before .before .before .before .before .before .before .before .before .pre in let n = a .clocks .count in let e = edge-of n (a .e) in let cs = bounds-of (a .clocks) in let list = now (a .list) in let rows = listed-rows n list (a .count) in (p .0, (p .1 .0, (search needs, groups-wider cs e n list (a .start) (a .end) 0 (a .count) _ _ _ (omega arith) (p .1 .1 .0 .1) (c .before .before .before .before .lodge-all .ensures))))
+lacks-held-requires c κs = let a = c .before .before .before .before .before .before .before .before .before .before .before .args in let p = c .before .before .before .before .before .before .before .before .before .before .before .pre in let n = a .clocks .count in let e = edge-of n (a .e) in let cs = bounds-of (a .clocks) in let list = now (a .list) in let rows = listed-rows n list (a .count) in (p .0, (p .1 .0, (search needs, groups-wider cs e n list (a .start) (a .end) 0 (a .count) _ _ _ (omega arith) (p .1 .1 .0 .1) (c .before .before .before .before .lodge-all .ensures))))
 
 same-length : tie.Need-same-length
 same-length c = search needs
 
 returns-2 : tie.Need-returns-2
-returns-2 c = let a = c .before .before .before .before .before .before .before .before .before .before .before .args in let p = c .before .before .before .before .before .before .before .before .before .before .before .pre in let n = a .clocks .count in let e = edge-of n (a .e) in let cs = bounds-of (a .clocks) in let list = now (a .list) in let rows = listed-rows n list (a .count) in grouped-held cs e n list (a .count) _ (a .start) (a .end) _ _ (c .before .before .before .before .before .lodge-all .ensures) (c .lacks-held .result) (c .lacks-held .ensures)
+returns-2 c = let a = c .before .before .before .before .before .before .before .before .before .before .before .before .args in let p = c .before .before .before .before .before .before .before .before .before .before .before .before .pre in let n = a .clocks .count in let e = edge-of n (a .e) in let cs = bounds-of (a .clocks) in let list = now (a .list) in let rows = listed-rows n list (a .count) in grouped-held cs e n list (a .count) _ (a .start) (a .end) _ _ (c .before .before .before .before .before .lodge-all .ensures) (c .lacks-held .result) (c .lacks-held .ensures)
 
 pub lacks-groups-spec : {M : Type 1} → statement M
 lacks-groups-spec =
     tie.close
     (tie.spec
+    has-groups-requires
     returns
     slice-aggregate-lodge-all
     lodge-all-requires
