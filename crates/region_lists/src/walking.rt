@@ -117,6 +117,8 @@ fn lacks_groups(
     }
     let mut slots = [0u16; 1024];
     lodge_all(list, clocks, count, e, start, end, taken, &mut slots);
+    // once more: what a slot holds now may lead further than rows that were offered before it
+    lodge_all(list, clocks, count, e, start, end, taken, &mut slots);
     lacks_held(list, clocks, count, e, into, &slots)
 }
 

@@ -81,7 +81,9 @@ pub record Lodges (c : List ℕ) (e : Edge) (n : ℕ) (list : List ℕ) (lo hi i
   pub lead : (p : Row → Bool) → HeldLead c e n list p slots′ → HeldLead c e n list p slots
   pub covers : (p : Row → Bool) → HeldLead c e n list p slots′ → taken ≡ true → (already ≡ true) ⊎ Leads c e n list p i
 
--- rows from lo to before hi were offered to the slots: what passes from the rows that they hold passes from all that are newly taken
-pub record Groups (c : List ℕ) (e : Edge) (n : ℕ) (list : List ℕ) (lo hi : ℕ) (ts ts′ : List Bool) (slots : List ℕ) : Type 0 where
-  pub held : AllHeld e n list lo hi slots
-  pub lead : (p : Row → Bool) → HeldLead c e n list p slots → (j : ℕ) → lo ≤ j → j < hi → taken-at ts′ j ≡ true → (taken-at ts j ≡ true) ⊎ Leads c e n list p j
+-- rows from lo to before hi were offered to the slots: what passes from the rows that they hold then passes from all that they held, and from all rows that
+-- are newly taken
+pub record Groups (c : List ℕ) (e : Edge) (n : ℕ) (list : List ℕ) (lo hi : ℕ) (ts ts′ : List Bool) (slots slots′ : List ℕ) : Type 0 where
+  pub held : AllHeld e n list lo hi slots′
+  pub still : (p : Row → Bool) → HeldLead c e n list p slots′ → HeldLead c e n list p slots
+  pub lead : (p : Row → Bool) → HeldLead c e n list p slots′ → (j : ℕ) → lo ≤ j → j < hi → taken-at ts′ j ≡ true → (taken-at ts j ≡ true) ⊎ Leads c e n list p j

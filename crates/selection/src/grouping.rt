@@ -121,7 +121,7 @@ pub fn lodge_all(
     requires { ⌜ length (now taken) ≡ 4096 ⌝ }
     requires { ⌜ length (now slots) ≡ 1024 ⌝ }
     requires { ⌜ AllHeld (edge-of (clocks .count) e) (clocks .count) (now list) start end (now slots) ⌝ }
-    ensures { λ r. ⌜ Groups (bounds-of clocks) (edge-of (clocks .count) e) (clocks .count) (now (list .entry)) start end (now (taken .entry)) (now (taken .exit)) (now (slots .exit)) ⌝ }
+    ensures { λ r. ⌜ Groups (bounds-of clocks) (edge-of (clocks .count) e) (clocks .count) (now (list .entry)) start end (now (taken .entry)) (now (taken .exit)) (now (slots .entry)) (now (slots .exit)) ⌝ }
 {
     let mut i = start;
     while i < end {

@@ -79,10 +79,10 @@ module _ (c : List ℕ) (e : Edge) (n : ℕ) (list : List ℕ) where
     held-fails place i q h = rw q (rw add-one at h)
 
     -- what they tell of the rows that were offered to them
-    pub grouped-held : (lo hi : ℕ) (ts ts′ : List Bool) → Groups c e n list lo hi ts ts′ slots → (place : ℕ) → HeldWalked c e n list count slots place
+    pub grouped-held : (lo hi : ℕ) (ts ts′ : List Bool) (start : List ℕ) → Groups c e n list lo hi ts ts′ start slots → (place : ℕ) → HeldWalked c e n list count slots place
         → Grouped c e n list count lo hi ts ts′ place
-    grouped-held lo hi ts ts′ G zero h = G .lead (has (listed-rows n list count)) h
-    grouped-held lo hi ts ts′ G (suc i) h = h
+    grouped-held lo hi ts ts′ start G zero h = G .lead (has (listed-rows n list count)) h
+    grouped-held lo hi ts ts′ start G (suc i) h = h
 
   -- as many as there is room for at a time ------------------------------------------------------------------------------------------------
 

@@ -34,9 +34,9 @@ held-wider e n list lo hi lo′ hi′ slots a b H k j l h =
     let o = H k j l h in
     record { from = omega (arith, o .from); to = omega (arith, o .to); located = o .located; guarded = o .guarded }
 
-pub groups-wider : (c : List ℕ) (e : Edge) (n : ℕ) (list : List ℕ) (lo hi lo′ hi′ : ℕ) (ts ts′ : List Bool) (slots : List ℕ) → lo′ ≤ lo → hi ≤ hi′
-    → Groups c e n list lo hi ts ts′ slots → AllHeld e n list lo′ hi′ slots
-groups-wider c e n list lo hi lo′ hi′ ts ts′ slots a b G = held-wider e n list lo hi lo′ hi′ slots a b (G .held)
+pub groups-wider : (c : List ℕ) (e : Edge) (n : ℕ) (list : List ℕ) (lo hi lo′ hi′ : ℕ) (ts ts′ : List Bool) (slots slots′ : List ℕ) → lo′ ≤ lo → hi ≤ hi′
+    → Groups c e n list lo hi ts ts′ slots slots′ → AllHeld e n list lo′ hi′ slots′
+groups-wider c e n list lo hi lo′ hi′ ts ts′ slots slots′ a b G = held-wider e n list lo hi lo′ hi′ slots′ a b (G .held)
 
 module _ (c : List ℕ) (e : Edge) (n : ℕ) (list : List ℕ) (lo hi : ℕ) where
   -- a row is offered ----------------------------------------------------------------------------------------------------------------------
@@ -116,18 +116,19 @@ module _ (c : List ℕ) (e : Edge) (n : ℕ) (list : List ℕ) (lo hi : ℕ) whe
 
   -- rows are offered one after the other ------------------------------------------------------------------------------------------------
 
-  module _ (ts : List Bool) where
+  module _ (ts : List Bool) (start : List ℕ) where
     -- those before row i have been offered
     pub record Grouping (i : ℕ) (ts′ : List Bool) (slots : List ℕ) : Type 0 where
       pub from : lo ≤ i
       pub within : i ≤ hi
       pub held : AllHeld e n list lo hi slots
+      pub still : (p : Row → Bool) → HeldLead c e n list p slots → HeldLead c e n list p start
       pub rest : (j : ℕ) → i ≤ j → taken-at ts′ j ≡ taken-at ts j
       pub lead : (p : Row → Bool) → HeldLead c e n list p slots → (j : ℕ) → lo ≤ j → j < i → taken-at ts′ j ≡ true → (taken-at ts j ≡ true) ⊎ Leads c e n list p j
 
-    pub grouping-begins : (slots : List ℕ) → lo ≤ hi → AllHeld e n list lo hi slots → Grouping lo ts slots
-    grouping-begins slots h H =
-        record { from = omega arith; within = h; held = H; rest = λ j l. refl; lead = λ p h j a b. absurd (omega arith) }
+    pub grouping-begins : lo ≤ hi → AllHeld e n list lo hi start → Grouping lo ts start
+    grouping-begins h H =
+        record { from = omega arith; within = h; held = H; still = λ p h. h; rest = λ j l. refl; lead = λ p h j a b. absurd (omega arith) }
 
     module _ (i : ℕ) (ts′ : List Bool) (slots : List ℕ) (G : Grouping i ts′ slots) where
       pub grouping-on : i < hi → i < length ts′ → (slots′ : List ℕ) (taken : Bool) → Lodges c e n list lo hi i (taken-at ts′ i) slots slots′ taken
@@ -137,6 +138,7 @@ module _ (c : List ℕ) (e : Edge) (n : ℕ) (list : List ℕ) (lo hi : ℕ) whe
             from = omega (arith, G .from);
             within = omega arith;
             held = L .held;
+            still = λ p h. G .still p (L .lead p h);
             rest = λ j k. other j (λ z. omega arith) ∙ G .rest j (omega arith);
             lead = λ p h j a b t. leads p h j a b t (ℕ-discrete j i);
           }
@@ -156,5 +158,17 @@ module _ (c : List ℕ) (e : Edge) (n : ℕ) (list : List ℕ) (lo hi : ℕ) whe
               go (inl k) = inl (ap (taken-at ts) z ∙ sym (G .rest i (omega arith)) ∙ k)
               go (inr k) = inr (rw z k)
 
-      pub grouping-ends : hi ≤ i → Groups c e n list lo hi ts ts′ slots
-      grouping-ends h = record { held = G .held; lead = λ p k j a b t. G .lead p k j a (omega arith) t }
+      pub grouping-ends : hi ≤ i → Groups c e n list lo hi ts ts′ start slots
+      grouping-ends h = record { held = G .held; still = G .still; lead = λ p k j a b t. G .lead p k j a (omega arith) t }
+
+  -- rows are offered a second time -----------------------------------------------------------------------------------------------------------
+
+  -- those that found another in their slot may find one now that they lead no further from
+  pub groups-twice : (ts ts′ ts″ : List Bool) (slots slots′ slots″ : List ℕ) → Groups c e n list lo hi ts ts′ slots slots′ → Groups c e n list lo hi ts′ ts″ slots′ slots″
+      → Groups c e n list lo hi ts ts″ slots slots″
+  groups-twice ts ts′ ts″ slots slots′ slots″ A B =
+      record { held = B .held; still = λ p h. A .still p (B .still p h); lead = λ p h j a b t. go p h j a b (B .lead p h j a b t) }
+    where
+      go : (p : Row → Bool) → HeldLead c e n list p slots″ → (j : ℕ) → lo ≤ j → j < hi → (taken-at ts′ j ≡ true) ⊎ Leads c e n list p j → (taken-at ts j ≡ true) ⊎ Leads c e n list p j
+      go p h j a b (inl t) = A .lead p (B .still p h) j a b t
+      go p h j a b (inr t) = inr t
