@@ -1,4 +1,3 @@
 -- What the answers of following stand for.
 pub mod Following
 pub mod Writing
-pub mod Memo

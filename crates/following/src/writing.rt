@@ -1,31 +1,29 @@
 // Writing the rows of all regions that an edge leads to. The walk chooses their intervals; the regions of the same intervals stand together, and their ranks
 // are read from a table.
 ghost use mathlib.Core.Path.{_≡_};
-ghost use mathlib.Core.Bool.{true, false};
-ghost use Prim.Native.Nat.{ℕ, _+_, _≤_, _<_};
+ghost use Prim.Native.Nat.{ℕ, _≤_, _<_};
 ghost use lib.ListN.{length};
-ghost use Rattle.automata.specs.Clocks.{at, one-if};
-ghost use Rattle.regions.specs.Placing.{placed-at};
+ghost use Rattle.automata.specs.Clocks.{at};
 ghost use Rattle.regions.specs.Values.{row-of};
-ghost use Rattle.rankings.specs.Ranking.{InRange, pattern};
+ghost use Rattle.rankings.specs.Ranking.{InRange};
 ghost use Rattle.rankings.specs.Table.{table};
 ghost use Rattle.edge_walk.specs.Choice.{Ready};
 ghost use Rattle.edge_walk.specs.Intervals.{Chosen};
 ghost use Rattle.edge_walk.specs.Way.{way-rows};
 ghost use Rattle.calls.specs.RegionFile.{rows-bytes};
-ghost use Rattle.following.specs.Writing.{Low, Holds, row-if, rows-allowed, rows-chosen, partedb, parted-at, Permitted};
-ghost use Rattle.following.specs.Memo.{marked, Kept};
+ghost use Rattle.ranked_ways.specs.Allowed.{rows-allowed, rows-chosen, Permitted};
+ghost use Rattle.ranked_ways.specs.Memo.{Kept};
+ghost use Rattle.following.specs.Writing.{Low, Holds, row-if};
 use edge_walk::choice::Search;
 use edge_walk::stand::Stand;
 use edge_walk::stand::start_in;
 use edge_walk::way::Way;
+use ranked_ways::ranked_way::is_allowed;
+use ranked_ways::ranked_way::parted_pattern;
 use rankings::ranking::all_rankings;
 use rankings::ranking::first_ranking;
 use rankings::ranking::ranked_from;
 use rankings::ranking::rankings_of;
-use rankings::ranking::weight_if;
-use regions::clock_move::Move;
-use regions::placing::Moves;
 use regions::region::Region;
 use rows::row::row_width;
 use rows::row_writer::write_row;
@@ -43,75 +41,6 @@ fn write_if(buffer: &mut [u8], n: usize, region: Region, wanted: bool) -> usize
     }
     write_row(buffer, n, region);
     row_width(n)
-}
-
-// Whether the order of a clock's new value to what it is compared with is that of the fractional parts.
-fn is_parted(asked: Move, interval: u16) -> bool
-    ensures { λ r. ⌜ r ≡ partedb asked interval ⌝ }
-{
-    if interval == asked.top {
-        return false;
-    }
-    asked.is_by_parts(interval)
-}
-
-// The number of the choice of clocks of which that is so. Where it is 0, every ranking is allowed, since each interval is.
-fn parted_pattern(moves: Moves, part: Region, count: usize) -> usize
-    requires { ⌜ count ≤ 4 ⌝ }
-    ensures { λ r. ⌜ r ≡ pattern (parted-at (moves .each) part) count ⌝ }
-{
-    let mut sum = 0;
-    let mut z = 0;
-    while z < count {
-        let asked = moves.each[z];
-        sum += weight_if(is_parted(asked, part.intervals[z]), z);
-        z += 1;
-    }
-    sum
-}
-
-// How an answer is remembered; 0 is none.
-fn mark(allowed: bool) -> u8
-    ensures { λ r. ⌜ r ≡ 1 + one-if allowed ⌝ }
-{
-    if !allowed {
-        return 1;
-    }
-    2
-}
-
-// Whether the moves allow a region. The answer turns on its ranks and on the clocks that go by the fractional parts, and on nothing else of its intervals,
-// so it is worked out once for all of those and remembered at their place.
-fn is_allowed(
-    memo: &mut [u8],
-    place: usize,
-    parts: usize,
-    moves: Moves,
-    region: Region,
-    n: usize,
-) -> bool
-    requires { ⌜ n ≤ 4 ⌝ }
-    requires { ⌜ moves .ranks ≤ 4 ⌝ }
-    requires { ⌜ place < length (now memo) ⌝ }
-    requires { ⌜ (parts ≡ 0 → placed-at (moves .each) (moves .ranks) n (region .intervals) (region .ranks) ≡ true) ⌝ }
-    requires { ⌜ (at (now memo) place ≡ 1 → placed-at (moves .each) (moves .ranks) n (region .intervals) (region .ranks) ≡ false) ⌝ }
-    requires { ⌜ (at (now memo) place ≡ 2 → placed-at (moves .each) (moves .ranks) n (region .intervals) (region .ranks) ≡ true) ⌝ }
-    ensures allowed { λ r. ⌜ r ≡ placed-at (moves .each) (moves .ranks) n (region .intervals) (region .ranks) ⌝ }
-    ensures memo { λ r. ⌜ now (memo .exit) ≡ marked parts place r (now (memo .entry)) ⌝ }
-{
-    if parts == 0 {
-        return true;
-    }
-    let known = memo[place];
-    if known == 1 {
-        return false;
-    }
-    if known == 2 {
-        return true;
-    }
-    let allowed = moves.are_placed(region, n);
-    memo[place] = mark(allowed);
-    allowed
 }
 
 // Writes the rows of all regions with these intervals that the moves allow, ascending, and tells in how many bytes.

@@ -1,22 +1,17 @@
 -- The rows on a way, taken intervals by intervals: where a walk has chosen all intervals, the rows with these are the first that are ahead. Assumes nothing.
-use Prim.Native.Nat.{ℕ, zero, suc, _+_, _-_, _≤_, _<_}
+use Prim.Native.Nat.{ℕ, _+_, _-_, _≤_}
 use native.Mathlib.Omega.{arith}
 use mathlib.Core.Path.{_≡_, refl, sym, ap, subst, _∙_}
 use mathlib.Core.Bool.{Bool, true, false, cond, not}
 use mathlib.Core.Logic.{_⊎_, inl, inr}
 use mathlib.Core.List.{List, [], _∷_, _++_, append-assoc, append-nil, List·Memᴰ·head, List·Memᴰ·tail, List·Memᴰ·not-nil, List·Memᴰ·cases-cons, List·Memᴰ·append-cases, Memᴰ·append-left, Memᴰ·append-right}
-use lib.ListN.{length, take, drop, length-take}
+use lib.ListN.{length, take, drop}
 use lib.Dec.{eqb}
-use lib.Seq.{ext-getD}
-use borrow.Author.Tests.{eq-eqb, ne-eqb}
-use Rattle.automata.specs.Clocks.{at}
 use Rattle.automata.specs.Row.{Row, Below}
 use Rattle.automata.specs.Closed.{Mem}
 use Rattle.automata.specs.Rows.{select}
 use Rattle.automata.specs.Checks.{has}
 use Rattle.regions.specs.Order.{numbers}
-use Rattle.regions.specs.Values.{row-of}
-use Rattle.regions.specs.declared.region.Region.{Region}
 use Rattle.edge_walk.specs.Choice.{Candidate, Ready, numbers-of}
 use Rattle.edge_walk.specs.Stand.{start, Begun, Later, Ahead, Standing, Advance}
 use Rattle.edge_walk.specs.Intervals.{Chosen}
@@ -25,17 +20,18 @@ use Rattle.edge_walk.specs.declared.choice.Search.{Search}
 use Rattle.edge_walk.specs.declared.stand.Stand.{Stand}
 use Rattle.edge_walk.specs.declared.way.Way.{Way}
 use Rattle.calls.specs.RegionFile.{rows-bytes}
-use Rattle.following.specs.Writing.{Holds, rows-allowed, rows-chosen}
+use Rattle.ranked_ways.specs.Allowed.{rows-allowed, rows-chosen}
+use Rattle.following.specs.Writing.{Holds}
 use Rattle.automata.proofs.Laws.Tests.{Says, never, eqb-law, not-law, fails, true-or-false}
 use Rattle.automata.proofs.Laws.Checks.{has-law}
 use Rattle.automata.proofs.Laws.Members.{select-in, select-out, Sorted, sorted-append, sorted-select}
 use Rattle.automata.proofs.Laws.Ordered.{not-both-below}
-use Rattle.regions.proofs.Laws.Values.{length-first, length-padded}
-use Rattle.edge_walk.proofs.Laws.Numbers.{before-at, before-below, interval-number, count-numbers}
+use Rattle.edge_walk.proofs.Laws.Numbers.{before-at, before-below, count-numbers}
 use Rattle.edge_walk.proofs.Laws.Stand.{none-ahead}
 use Rattle.edge_walk.proofs.Laws.Along.{way-sorted, starts, start-on, on-start}
 use Rattle.edge_walk.proofs.Laws.Intervals.{chosen-start}
-use Rattle.following.proofs.Laws.Allowed.{allowed-in, allowed-out, allowed-sorted}
+use Rattle.ranked_ways.proofs.Laws.Allowed.{allowed-sorted}
+use Rattle.ranked_ways.proofs.Laws.Chosen.{four-intervals, sized, begun-in, in-begun, in-ahead}
 use Rattle.following.proofs.Laws.Put.{Put, put-none, put-holds, put-more, put-room, rows-length}
 
 -- lists that ascend --------------------------------------------------------------------------------------------------------------
@@ -72,54 +68,21 @@ module _ (s : Search) (ready : Ready s) (bounds : length (s .clocks .bounds) ≡
   abbrev n : ℕ
   n = s .clocks .count
 
-  abbrev js : List ℕ
-  js = take n (a .part .intervals)
-
-  sized : (x : Row) → Candidate s x → (length (x .intervals) ≡ n) × (length (x .ranks) ≡ n)
-  sized x q =
-      let e = length-first n (s .clocks .bounds) (ready .few .few) bounds in
-      (q .is-row .intervals-length ∙ e, q .is-row .ranks-length ∙ e)
-
-  long : length js ≡ n
-  long = length-first n (a .part .intervals) (ready .few .few) four
-
-  -- what begins with them has them
-  begun-in : (x : Row) → Candidate s x → Begun s a x → Mem x (rows-allowed s (a .part))
-  begun-in x q h = allowed-in s (a .part) x q (h 0 (omega arith)) (ext-getD 0 (x .intervals) js (sized x q .0 ∙ sym long) alike)
-    where
-      alike : (z : ℕ) → z < length (x .intervals) → at (x .intervals) z ≡ at js z
-      alike z l =
-          let i : z < n = omega (arith, sized x q .0) in
-          sym (interval-number n x (sized x q .0) z i) ∙ h (suc z) (omega arith) ∙ interval-number n (row-of n (a .part)) long z i
-
-  in-begun : (x : Row) → Mem x (rows-allowed s (a .part)) → Candidate s x × (x .location ≡ a .part .location) × Begun s a x
-  in-begun x m =
-      let (q, d, e) = allowed-out s (a .part) x m in
-      (q, d, begun x q d e)
-    where
-      begun : (x : Row) → Candidate s x → x .location ≡ a .part .location → x .intervals ≡ js → Begun s a x
-      begun x q d e zero l = d
-      begun x q d e (suc z) l =
-          interval-number n x (sized x q .0) z (omega arith) ∙ ap (λ (us : List ℕ). at us z) e ∙ sym (interval-number n (row-of n (a .part)) long z (omega arith))
-
-  in-ahead : (x : Row) → Mem x (rows-allowed s (a .part)) → Ahead s a x
-  in-ahead x m = let (q, d, h) = in-begun x m in record { held = q; located = d; later = inl (h, omega (arith, fresh)) }
-
   -- all others that are ahead are above them
   others-above : (x y : Row) → Mem x (rows-allowed s (a .part)) → Ahead s a y → (Begun s a y → ⊥) → Below x y
   others-above x y m q none = go (q .later)
     where
       here : Candidate s x × (x .location ≡ a .part .location) × Begun s a x
-      here = in-begun x m
+      here = in-begun s ready bounds a four all fresh x m
 
       alike : length (numbers x) ≡ length (numbers y)
-      alike = count-numbers n x (sized x (here .0) .0) (sized x (here .0) .1) ∙ sym (count-numbers n y (sized y (q .held) .0) (sized y (q .held) .1))
+      alike = count-numbers n x (sized s ready bounds a four all fresh x (here .0) .0) (sized s ready bounds a four all fresh x (here .0) .1) ∙ sym (count-numbers n y (sized s ready bounds a four all fresh y (q .held) .0) (sized s ready bounds a four all fresh y (q .held) .1))
 
       go : Later (numbers-of s (a .part)) (a .depth) (a .least) (numbers y) → Below x y
       go (inl (h, _)) = absurd (none h)
       go (inr (j, l, h, b)) =
-          before-below x y (sized x (here .0) .0 ∙ sym (sized y (q .held) .0))
-          (before-at (numbers x) (numbers y) j alike (omega (arith, count-numbers n x (sized x (here .0) .0) (sized x (here .0) .1)))
+          before-below x y (sized s ready bounds a four all fresh x (here .0) .0 ∙ sym (sized s ready bounds a four all fresh y (q .held) .0))
+          (before-at (numbers x) (numbers y) j alike (omega (arith, count-numbers n x (sized s ready bounds a four all fresh x (here .0) .0) (sized s ready bounds a four all fresh x (here .0) .1)))
           (λ i k. here .2 i (omega arith) ∙ sym (h i k)) (omega (arith, here .2 j l)))
 
   -- so they are the first of what is ahead
@@ -141,7 +104,7 @@ module _ (s : Search) (ready : Ready s) (bounds : length (s .clocks .bounds) ≡
     taken-first : rest ≡ taken ++ left
     taken-first =
         sorted-same rest (taken ++ left) sorted
-        (sorted-append Below taken left (allowed-sorted s (a .part)) left-sorted (λ x y m k. others-above x y m (to y (not-taken y k .0)) (λ h. not-taken y k .1 (begun-in y (to y (not-taken y k .0) .held) h))))
+        (sorted-append Below taken left (allowed-sorted s (a .part)) left-sorted (λ x y m k. others-above x y m (to y (not-taken y k .0)) (λ h. not-taken y k .1 (begun-in s ready bounds a four all fresh y (to y (not-taken y k .0) .held) h))))
         (λ x m. split x m (true-or-false (has taken x))) (λ x m. join x (List·Memᴰ·append-cases taken m))
       where
         split : (x : Row) → Mem x rest → (has taken x ≡ true) ⊎ (has taken x ≡ false) → Mem x (taken ++ left)
@@ -149,7 +112,7 @@ module _ (s : Search) (ready : Ready s) (bounds : length (s .clocks .bounds) ≡
         split x m (inr t) = Memᴰ·append-right taken (select-in (λ (x : Row). not (has taken x)) m (not-law (has taken x) .1 t))
 
         join : (x : Row) → Mem x taken ⊎ Mem x left → Mem x rest
-        join x (inl m) = from x (in-ahead x m)
+        join x (inl m) = from x (in-ahead s ready bounds a four all fresh x m)
         join x (inr m) = not-taken x m .0
 
     -- the others are ahead of the next stand
@@ -159,22 +122,12 @@ module _ (s : Search) (ready : Ready s) (bounds : length (s .clocks .bounds) ≡
         where
           go : ((a .depth ≡ 1 + n) × Begun s a x) ⊎ Ahead s b x → Ahead s b x
           go (inr q) = q
-          go (inl (_, h)) = absurd (not-taken x m .1 (begun-in x (to x (not-taken x m .0) .held) h))
+          go (inl (_, h)) = absurd (not-taken x m .1 (begun-in s ready bounds a four all fresh x (to x (not-taken x m .0) .held) h))
 
       left-from : (x : Row) → Ahead s b x → Mem x left
       left-from x q =
           select-in (λ (x : Row). not (has taken x)) (from x (step .none-again x q))
-          (not-law (has taken x) .1 (fails (has taken x) (has-law taken x) (λ h. step .left-behind x (all, in-begun x h .2) q)))
-
--- what is written where a walk stands
-module _ (s : Search) (a : Stand) where
-  pub chosen-none : (a .depth ≡ 1 + s .clocks .count → ⊥) → rows-chosen s a ≡ []
-  unfolding rows-chosen
-  chosen-none f = rw (ne-eqb (a .depth) (1 + s .clocks .count) f)
-
-  pub chosen-all : a .depth ≡ 1 + s .clocks .count → rows-chosen s a ≡ rows-allowed s (a .part)
-  unfolding rows-chosen
-  chosen-all e = rw (eq-eqb (a .depth) (1 + s .clocks .count) e)
+          (not-law (has taken x) .1 (fails (has taken x) (has-law taken x) (λ h. step .left-behind x (all, in-begun s ready bounds a four all fresh x h .2) q)))
 
 -- the walk along a way -----------------------------------------------------------------------------------------------------------
 
@@ -231,10 +184,8 @@ module _ (rows : List Row) (s : Search) (ready : Ready s) (bounds : length (s .c
       none [] to = refl
       none (x ∷ xs) to = absurd (none-ahead s ready bounds a (T .standing) e x (to x (List·Memᴰ·head refl)))
 
-  four : length (a .part .intervals) ≡ 4
-  four =
-      sym (ap (λ (v : Region). length (v .intervals)) (T .standing .plain))
-      ∙ length-padded (take (s .clocks .count) (a .part .intervals)) (omega (arith, length-take (s .clocks .count) (a .part .intervals), ready .few .few))
+  abbrev four : length (a .part .intervals) ≡ 4
+  four = four-intervals s ready a (T .standing)
 
   -- what is written here is a front of what is left
   front-of : (left : List Row) × (T .rest ≡ rows-chosen s a ++ left) × Sorted Below left

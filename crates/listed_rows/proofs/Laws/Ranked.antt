@@ -2,13 +2,14 @@
 use Prim.Native.Nat.{ℕ, zero, suc, _+_, _-_, _≤_, _<_}
 use native.Mathlib.Decide.{ℕ-discrete}
 use native.Mathlib.Omega.{arith}
-use mathlib.Core.Path.{_≡_, refl, sym, ap, _∙_}
+use mathlib.Core.Path.{_≡_, sym, ap, _∙_}
 use mathlib.Core.Bool.{Bool, true, false, cond, _&&_}
 use mathlib.Core.Logic.{inl, inr}
 use mathlib.Core.List.{List, [], _∷_, _++_}
 use lib.ListN.{length}
 use lib.Dec.{eqb, leb, ltb, leb·suc-suc, leb·suc-zero}
 use borrow.Author.Tests.{le-leb}
+use Rattle.automata.specs.Clocks.{at}
 use Rattle.automata.specs.Row.{Row, IsRow, Below}
 use Rattle.automata.specs.Closed.{Ascends}
 use Rattle.automata.specs.Rankings.{open-clocks, rankings}
@@ -24,40 +25,33 @@ use Rattle.listed_rows.specs.Listed.{listed-row, listed-rows, Listed, Sp
 use Rattle.listed_rows.specs.Ranked.{besideb, AllRanked}
 use Rattle.listed_rows.proofs.Laws.Listed.{listed-in, listed-rise}
 use Rattle.listed_rows.proofs.Laws.ListedNumbers.{intervals-long}
-use Rattle.regions.proofs.Laws.Values.{length-first}
+use Rattle.regions.proofs.Laws.Values.{length-first, at-take}
+use Rattle.rankings.specs.Ranking.{rows-ranked, InRange}
+use Rattle.rankings.proofs.Laws.Ranking.{ranked-count}
 
--- how many ways there are to rank so many clocks ----------------------------------------------------------------------------------------
-
-pub ways-one : (k : ℕ) → k < 2 → 1 ≡ rankings k
-unfolding rankings
-ways-one zero h = refl
-ways-one (suc zero) h = refl
-ways-one (suc (suc k)) h = absurd (omega arith)
-
-pub ways-three : (k : ℕ) → k ≡ 2 → 3 ≡ rankings k
-unfolding rankings
-ways-three k e = rw e refl
-
-pub ways-thirteen : (k : ℕ) → k ≡ 3 → 13 ≡ rankings k
-unfolding rankings
-ways-thirteen k e = rw e refl
-
-pub ways-most : (k : ℕ) → (k < 2 → ⊥) → (k ≡ 2 → ⊥) → (k ≡ 3 → ⊥) → 75 ≡ rankings k
-unfolding rankings
-ways-most zero h d e = absurd (h (omega arith))
-ways-most (suc zero) h d e = absurd (h (omega arith))
-ways-most (suc (suc zero)) h d e = absurd (d refl)
-ways-most (suc (suc (suc zero))) h d e = absurd (e refl)
-ways-most (suc (suc (suc (suc k)))) h d e = refl
+-- how many regions have the same intervals ----------------------------------------------------------------------------------------
 
 -- at least one, and few
-pub few-ways : (w k : ℕ) → w ≡ rankings k → (1 ≤ w) × (w ≤ 75)
+few-ways : (w k : ℕ) → w ≡ rankings k → (1 ≤ w) × (w ≤ 75)
 unfolding rankings
 few-ways w zero e = (omega arith, omega arith)
 few-ways w (suc zero) e = (omega arith, omega arith)
 few-ways w (suc (suc zero)) e = (omega arith, omega arith)
 few-ways w (suc (suc (suc zero))) e = (omega arith, omega arith)
 few-ways w (suc (suc (suc (suc k)))) e = (omega arith, omega arith)
+
+module _ (k : Clocks) (list : List ℕ) (count : ℕ) (L : Listed k list count) (part : Region) (four : length (part .intervals) ≡ 4)
+    (within : InRange k part) (ways : ℕ) (e : ways ≡ length (rows-ranked k part)) where
+  pub ranked-ways : ways ≡ rankings (open-clocks (bounds-of k) (row-of (k .count) part .intervals) (k .count))
+  ranked-ways =
+      e
+      ∙ ranked-count (bounds-of k) (part .location) (row-of (k .count) part .intervals) (length-first (k .count) (part .intervals) (L .few .few) four ∙ sym (L .sized))
+      (λ z h. let l : z < k .count = omega (arith, L .sized) in rw (at-take (k .count) (k .bounds) z l, at-take (k .count) (part .intervals) z l) (within z l))
+      (omega (arith, L .sized, L .few .few))
+      ∙ ap (λ (n : ℕ). rankings (open-clocks (bounds-of k) (row-of (k .count) part .intervals) n)) (L .sized)
+
+  pub few-ranked : (1 ≤ ways) × (ways ≤ 75)
+  few-ranked = few-ways ways (open-clocks (bounds-of k) (row-of (k .count) part .intervals) (k .count)) ranked-ways
 
 -- rows side by side ----------------------------------------------------------------------------------------------------------------------
 

@@ -10,8 +10,8 @@ use Rattle.rankings.proofs.Laws.Table.{table-long}
 use Rattle.calls.specs.RegionFile.{rows-bytes}
 use Rattle.edge_walk.specs.Stand.{steps-left}
 use Rattle.following.specs.Writing.{Holds}
-use Rattle.following.specs.Memo.{Kept}
-use Rattle.following.proofs.Laws.Memo.{kept-none}
+use Rattle.ranked_ways.specs.Memo.{Kept}
+use Rattle.ranked_ways.proofs.Laws.Memo.{kept-none}
 use Rattle.following.proofs.Laws.Taking.{Taken, rows-from, from-way, no-rows, none-taken, all-taken, room-taken, more-taken}
 use borrow.Author.Needs.{needs}
 use Rattle.following.proofs.writing.write_all.Statement.{statement}

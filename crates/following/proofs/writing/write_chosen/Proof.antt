@@ -1,6 +1,6 @@
 use native.Mathlib.Omega.{arith}
 use mathlib.Core.Path.{refl}
-use Rattle.following.proofs.Laws.Taking.{chosen-none, chosen-all}
+use Rattle.ranked_ways.proofs.Laws.Chosen.{chosen-none, chosen-all}
 use borrow.Author.Needs.{needs}
 use Rattle.following.proofs.writing.write_chosen.Statement.{statement}
 use Rattle.following.proofs.writing.write_chosen.Tie as tie

@@ -8,10 +8,10 @@ use Rattle.automata.specs.Rows.{select}
 use Rattle.regions.specs.Values.{row-of}
 use Rattle.rankings.specs.Ranking.{rows-ranked}
 use Rattle.edge_walk.specs.Choice.{allowsb}
-use Rattle.following.specs.Memo.{Kept}
+use Rattle.ranked_ways.specs.Memo.{Kept}
 use Rattle.rankings.proofs.Laws.Ranking.{in-table}
 use Rattle.following.proofs.Laws.Put.{Put, put-none, all-passed, turn-room, turn-more}
-use Rattle.following.proofs.Laws.Memo.{parts-low, place-in, free-known, one-known, two-known, allowed-is, kept-on}
+use Rattle.ranked_ways.proofs.Laws.Memo.{parts-low, place-in, free-known, one-known, two-known, allowed-is, kept-on}
 use borrow.Author.Needs.{needs}
 use Rattle.following.proofs.writing.write_ranked.Statement.{statement}
 use Rattle.following.proofs.writing.write_ranked.Tie as tie

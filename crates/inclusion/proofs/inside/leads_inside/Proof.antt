@@ -5,6 +5,7 @@ use Rattle.listed_rows.specs.Located.{RowsIn}
 use Rattle.listed_rows.specs.Listed.{listed-row, listed-rows, Listed}
 use Rattle.edge_walk.proofs.Laws.Visit.{visit-none, visited}
 use Rattle.edge_walk.proofs.Laws.Along.{starts}
+use Rattle.edge_walk.proofs.Laws.Intervals.{chosen-start}
 use Rattle.edge_walk.specs.Choice.{allowsb}
 use Rattle.regions.specs.declared.region.Clocks.{Clocks}
 use Rattle.automata.specs.Checks.{every, has}
@@ -44,7 +45,7 @@ start-in-requires : tie.Need-start-in-requires
 start-in-requires c κs = search needs
 
 all-inside-requires : tie.Need-all-inside-requires
-all-inside-requires c κs = let s = c .before .before .before .before .before .before .before .before .before in let a = s .args in let way = c .before .before .before .before .before .before .before .open-way .ensures in (subst (λ (k : Clocks). Listed k (now (a .list)) (a .count)) (sym (way .1 .0)) (s .pre .0), (subst (λ (k : Clocks). Ascends (listed-rows (k .count) (now (a .list)) (a .count))) (sym (way .1 .0)) (s .pre .1 .0), (way .0, rw (c .start-in .ensures) (starts (c .before .before .before .before .before .before .before .open-way .result) (way .0) (not-false _ (c .before .before .before .before .before .if1 .left))))))
+all-inside-requires c κs = let s = c .before .before .before .before .before .before .before .before .before in let a = s .args in let way = c .before .before .before .before .before .before .before .open-way .ensures in (subst (λ (k : Clocks). Listed k (now (a .list)) (a .count)) (sym (way .1 .0)) (s .pre .0), (subst (λ (k : Clocks). Ascends (listed-rows (k .count) (now (a .list)) (a .count))) (sym (way .1 .0)) (s .pre .1 .0), (way .0, (rw (c .start-in .ensures) (starts (c .before .before .before .before .before .before .before .open-way .result) (way .0) (not-false _ (c .before .before .before .before .before .if1 .left))), rw (c .start-in .ensures) (chosen-start (c .before .before .before .before .before .before .before .open-way .result .search) (c .before .before .before .before .before .before .before .open-way .result .target))))))
 
 returns-3 : tie.Need-returns-3
 returns-3 c = let s = c .before .before .before .before .before .before .before .before .before .before in let a = s .args in let way = c .before .before .before .before .before .before .before .before .open-way .ensures in visited (c .before .before .before .before .before .before .before .before .open-way .result) (way .0) (has (listed-rows (c .before .before .before .before .before .before .before .before .open-way .result .search .clocks .count) (now (a .list)) (a .count))) (not-false _ (c .before .before .before .before .before .before .if1 .left)) _ (rw (c .before .start-in .ensures) at (c .all-inside .ensures)) ∙ (λ i. every (has (listed-rows (way .1 .0 i .count) (now (a .list)) (a .count))) (way .1 .1 .1 (s .pre .1 .1 .1 .1 .0) (s .pre .1 .1 .1 .1 .1 .0) i))

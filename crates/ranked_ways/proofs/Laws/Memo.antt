@@ -1,4 +1,4 @@
--- What the follower remembers of rankings. Assumes nothing.
+-- What is remembered of rankings. Assumes nothing.
 use Prim.Native.Nat.{ℕ, zero, suc, _+_, _*_, _≤_, _<_}
 use native.Mathlib.Decide.{ℕ-discrete}
 use native.Mathlib.Numerals.{add-one}
@@ -23,13 +23,13 @@ use Rattle.rankings.proofs.Laws.Ranking.{pattern-less, pattern-low}
 use Rattle.regions.specs.Values.{row-of}
 use Rattle.edge_walk.specs.Choice.{allowsb}
 use Rattle.edge_walk.specs.declared.choice.Search.{Search}
-use Rattle.following.specs.Writing.{partedb, parted-at, Permitted}
-use Rattle.following.specs.Memo.{rank-fits-by, placed-by, memo-place, Remembers, marked, Kept}
+use Rattle.ranked_ways.specs.Allowed.{partedb, parted-at, Permitted}
+use Rattle.ranked_ways.specs.Memo.{rank-fits-by, placed-by, memo-place, Remembers, marked, Kept}
 use Rattle.automata.proofs.Laws.Tests.{true-or-false, and-law, not-law}
 use Rattle.automata.proofs.Laws.Lists.{zeros}
 use Rattle.regions.proofs.Laws.Move.{by-partsb, fits-parts}
 use Rattle.regions.proofs.Laws.Placing.{allb-same}
-use Rattle.following.proofs.Laws.Allowed.{loose-fits, placed-free, placed-first}
+use Rattle.ranked_ways.proofs.Laws.Allowed.{loose-fits, placed-free, placed-first}
 
 -- which rankings are allowed -----------------------------------------------------------------------------------------------------
 

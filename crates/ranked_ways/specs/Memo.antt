@@ -1,4 +1,4 @@
--- What the follower remembers: which rankings the moves allow turns on the clocks whose order is that of the fractional parts, and on nothing else of the
+-- What is remembered: which rankings the moves allow turns on the clocks whose order is that of the fractional parts, and on nothing else of the
 -- intervals. Assumes nothing.
 use Prim.Native.Nat.{ℕ, _+_, _*_, _<_}
 use mathlib.Core.Path.{_≡_}

@@ -1,8 +1,8 @@
 use borrow.Author.Tests.{eq-eqb, ne-eqb}
-use Rattle.following.specs.Writing.{partedb}
+use Rattle.ranked_ways.specs.Allowed.{partedb}
 use borrow.Author.Needs.{needs}
-use Rattle.following.proofs.writing.is_parted.Statement.{statement}
-use Rattle.following.proofs.writing.is_parted.Tie as tie
+use Rattle.ranked_ways.proofs.ranked_way.is_parted.Statement.{statement}
+use Rattle.ranked_ways.proofs.ranked_way.is_parted.Tie as tie
 
 returns : tie.Need-returns
 unfolding partedb

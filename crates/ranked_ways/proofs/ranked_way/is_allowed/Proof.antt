@@ -1,10 +1,10 @@
 use denote.Ref.{now}
 use mathlib.Core.Path.{sym}
 use mathlib.Core.Bool.{true, false}
-use Rattle.following.proofs.Laws.Memo.{marked-none, marked-known, marked-new}
+use Rattle.ranked_ways.proofs.Laws.Memo.{marked-none, marked-known, marked-new}
 use borrow.Author.Needs.{needs}
-use Rattle.following.proofs.writing.is_allowed.Statement.{statement}
-use Rattle.following.proofs.writing.is_allowed.Tie as tie
+use Rattle.ranked_ways.proofs.ranked_way.is_allowed.Statement.{statement}
+use Rattle.ranked_ways.proofs.ranked_way.is_allowed.Tie as tie
 
 returns : tie.Need-returns
 returns c = let s = c .before .before in (sym (s .pre .1 .1 .1 .0 (c .if1 .taken)), marked-none (s .args .parts) (s .args .place) true (now (s .args .memo)) (c .if1 .taken))

@@ -21,7 +21,7 @@ use Rattle.regions.specs.declared.region.Region.{Region}
 use Rattle.rankings.specs.Ranking.{ranked-rows, rows-ranked}
 use Rattle.edge_walk.specs.Choice.{allowsb, Candidate}
 use Rattle.edge_walk.specs.declared.choice.Search.{Search}
-use Rattle.following.specs.Writing.{rows-allowed, partedb}
+use Rattle.ranked_ways.specs.Allowed.{rows-allowed, partedb}
 use Rattle.automata.proofs.Laws.Tests.{never, true-or-false, refutes, eqb-law, and-law, not-law, allb-law, same-test}
 use Rattle.automata.proofs.Laws.Members.{map-in, map-out, select-in, select-out, Sorted, sorted-select, sorted-map}
 use Rattle.automata.proofs.Laws.Rows.{isrowb-law, rank-lists-in, rank-lists-sorted}

@@ -3,11 +3,11 @@ use native.Mathlib.Omega.{arith}
 use mathlib.Core.Path.{_≡_, refl}
 use Rattle.rankings.specs.Ranking.{pattern}
 use Rattle.rankings.proofs.Laws.Ranking.{pattern-low}
-use Rattle.following.specs.Writing.{parted-at}
-use Rattle.following.proofs.Laws.Memo.{pattern-next}
+use Rattle.ranked_ways.specs.Allowed.{parted-at}
+use Rattle.ranked_ways.proofs.Laws.Memo.{pattern-next}
 use borrow.Author.Needs.{needs}
-use Rattle.following.proofs.writing.parted_pattern.Statement.{statement}
-use Rattle.following.proofs.writing.parted_pattern.Tie as tie
+use Rattle.ranked_ways.proofs.ranked_way.parted_pattern.Statement.{statement}
+use Rattle.ranked_ways.proofs.ranked_way.parted_pattern.Tie as tie
 
 abbrev Inv-loop : tie.InvT-loop
 Inv-loop count moves part sum₀ z₀ sum z = (z ≤ count) × (sum ≡ pattern (parted-at (moves .each) part) z)

@@ -1,6 +1,6 @@
 use borrow.Author.Tests.{not-true, not-false}
-use Rattle.following.proofs.writing.mark.Statement.{statement}
-use Rattle.following.proofs.writing.mark.Tie as tie
+use Rattle.ranked_ways.proofs.ranked_way.mark.Statement.{statement}
+use Rattle.ranked_ways.proofs.ranked_way.mark.Tie as tie
 
 returns : tie.Need-returns
 returns c = rw (not-true (c .before .args .allowed) (c .if1 .taken))
