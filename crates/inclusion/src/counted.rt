@@ -28,7 +28,7 @@ fn permitted_intervals(asked: Move) -> usize
     total
 }
 
-// Whether a way may have as many regions as a sixteenth of so many rows, so that it is cheaper to test each of the rows than to visit the way: as many
+// Whether a way may have as many regions as a quarter of so many rows, so that it is cheaper to test each of the rows than to visit the way: as many
 // choices of intervals as that. Either way would be right.
 pub fn is_wide(s: Search, rows: usize) -> bool
     requires { ⌜ Ready s ⌝ }
@@ -41,7 +41,7 @@ pub fn is_wide(s: Search, rows: usize) -> bool
     while z < n {
         let asked = moves.each[z];
         choices = choices * permitted_intervals(asked);
-        if rows < 16 * choices {
+        if rows < 4 * choices {
             return true;
         }
         z += 1;

@@ -6,7 +6,7 @@ use Rattle.inclusion.proofs.counted.is_wide.Statement.{statement}
 use Rattle.inclusion.proofs.counted.is_wide.Tie as tie
 
 abbrev Inv-loop : tie.InvT-loop
-Inv-loop rows n moves choices₀ z₀ choices z = (choices ≤ 256) × (z ≤ n)
+Inv-loop rows n moves choices₀ z₀ choices z = (choices ≤ 1024) × (z ≤ n)
 
 abbrev μ-loop : tie.MeasureT-loop
 μ-loop rows n moves choices₀ z₀ choices z = n - z
