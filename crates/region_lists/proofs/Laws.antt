@@ -6,6 +6,7 @@ pub mod NextRows
 pub mod Together
 pub mod Sole
 pub mod Turning
+pub mod Alike
 pub mod RegionCheck
 -- the calls together
 pub mod RegionCall

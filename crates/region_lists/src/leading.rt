@@ -12,12 +12,14 @@ ghost use Rattle.region_lists.specs.RegionList.{NextListed};
 ghost use Rattle.listed_rows.specs.Located.{Together, RowsIn};
 ghost use Rattle.region_lists.specs.Leading.{Suited, FromAll};
 use crate::imaging::lacks_image;
+use crate::walking::lacks_alike;
 use crate::walking::lacks_walks;
 use listed_rows::listed::Span;
 use listed_rows::located::rows_in;
 use regions::edge::Edge;
 use regions::image::is_deterministic;
 use regions::region::Clocks;
+use skylines::alike::reads_none;
 use skylines::sides::is_choice;
 use skylines::sides::with_sides;
 use table_records::decode::after_edge;
@@ -65,6 +67,9 @@ fn lacks_by_edge(list: &[u8], clocks: Clocks, count: usize, e: Edge) -> u16
         return lacks_image(list, clocks, count, e, from.start, from.end);
     }
     let into = rows_in(list, clocks, count, e.target);
+    if reads_none(clocks, e) {
+        return lacks_alike(list, clocks, count, e, into, from.start, from.end);
+    }
     lacks_sides(list, clocks, count, e, into, from.start, from.end)
 }
 

@@ -5,6 +5,7 @@ ghost use lib.ListN.{length};
 ghost use Rattle.automata.specs.Successors.{edge-rows};
 ghost use Rattle.automata.specs.Checks.{every, has};
 ghost use Rattle.regions.specs.Values.{bounds-of, edge-of};
+ghost use Rattle.skylines.specs.Alike.{ReadsNone};
 ghost use Rattle.listed_rows.specs.Listed.{listed-row, listed-rows};
 ghost use Rattle.listed_rows.specs.Located.{Together, RowsIn};
 ghost use Rattle.selection.specs.Chosen.{AllSit, Offered, AllHeld};
@@ -162,6 +163,39 @@ pub fn lacks_walks(
             return place;
         }
         from = chosen.next;
+    }
+    0
+}
+
+// The place of a row from start to before end that lacks a next row by the edge, or 0, if the edge reads no clock: it leads to the same regions from all rows
+// that it can be taken from, so it is walked from the first of these.
+pub fn lacks_alike(
+    list: &[u8],
+    clocks: Clocks,
+    count: usize,
+    e: Edge,
+    into: Span,
+    start: usize,
+    end: usize,
+) -> u16
+    requires { ⌜ Suited clocks (now list) count e ⌝ }
+    requires { ⌜ RowsIn (clocks .count) (now list) count (e .target) (into .start) (into .end) ⌝ }
+    requires { ⌜ Together (clocks .count) (now list) count start (e .source) end ⌝ }
+    requires { ⌜ ReadsNone (clocks .count) (edge-of (clocks .count) e) ⌝ }
+    ensures { λ r. ⌜ FromAll (bounds-of clocks) (edge-of (clocks .count) e) (clocks .count) (now (list .entry)) count start end r ⌝ }
+{
+    let n = clocks.count as usize;
+    let mut i = start;
+    while i < end {
+        let row = row_at(list, n, i);
+        if row.guards_hold(clocks, e) {
+            let found = leads_from(list, clocks, count, e, into, i, 2 * count);
+            if found.listed {
+                return 0;
+            }
+            return (i + 1) as u16;
+        }
+        i += 1;
     }
     0
 }

@@ -5,3 +5,4 @@ pub mod Reach
 pub mod Covered
 pub mod Sides
 pub mod SideTests
+pub mod Alike

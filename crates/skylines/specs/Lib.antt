@@ -2,3 +2,4 @@
 pub mod Reach
 pub mod Skyline
 pub mod Sides
+pub mod Alike

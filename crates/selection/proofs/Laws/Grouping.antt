@@ -114,6 +114,14 @@ module _ (c : List ℕ) (e : Edge) (n : ℕ) (list : List ℕ) (lo hi : ℕ) whe
                 let r : m ≡ j = omega (arith, q, h) in
                 rw (r, ← there .number) (further c e n list lo hi sized few are-rows p other own other-sits own-sits w (rw (reach .number) g))
 
+  -- it was not taken already
+  pub lodges-new : (i : ℕ) (already : Bool) (slots slots′ : List ℕ) (taken : Bool) → Lodges c e n list lo hi i false slots slots′ taken → Lodges c e n list lo hi i already slots slots′ taken
+  lodges-new i already slots slots′ taken L = record { held = L .held; lead = L .lead; covers = λ p h s. go p (L .covers p h s) }
+    where
+      go : (p : Row → Bool) → (false ≡ true) ⊎ Leads c e n list p i → (already ≡ true) ⊎ Leads c e n list p i
+      go p (inl x) = never x
+      go p (inr x) = inr x
+
   -- rows are offered one after the other ------------------------------------------------------------------------------------------------
 
   module _ (ts : List Bool) (start : List ℕ) where

@@ -21,11 +21,20 @@ returns c = let a = c .before .before .before .before .before .args in let p = c
 rows-in-requires-2 : tie.Need-rows-in-requires-2
 rows-in-requires-2 c κs = search needs
 
-lacks-sides-requires : tie.Need-lacks-sides-requires
-lacks-sides-requires c κs = let p = c .before .before .before .before .before .pre in (p, (c .rows-in2 .ensures, c .before .before .before .rows-in .ensures .together))
+reads-none-requires : tie.Need-reads-none-requires
+reads-none-requires c κs = search needs
+
+lacks-alike-requires : tie.Need-lacks-alike-requires
+lacks-alike-requires c κs = let p = c .before .before .before .before .before .before .before .pre in (p, (c .before .before .rows-in2 .ensures, (c .before .before .before .before .before .rows-in .ensures .together, c .before .reads-none .ensures (c .if2 .taken))))
 
 returns-2 : tie.Need-returns-2
-returns-2 c = let a = c .before .before .before .before .before .before .args in let p = c .before .before .before .before .before .before .pre in let k = a .clocks .count in from-all k (now (a .list)) (a .count) (bounds-of (a .clocks)) (edge-of k (a .e)) _ _ (c .before .before .before .before .rows-in .ensures .starts) (c .before .before .before .before .rows-in .ensures .together) (p .ascends) (c .lacks-sides .result) (c .lacks-sides .ensures)
+returns-2 c = let a = c .before .before .before .before .before .before .before .before .args in let p = c .before .before .before .before .before .before .before .before .pre in let k = a .clocks .count in from-all k (now (a .list)) (a .count) (bounds-of (a .clocks)) (edge-of k (a .e)) _ _ (c .before .before .before .before .before .before .rows-in .ensures .starts) (c .before .before .before .before .before .before .rows-in .ensures .together) (p .ascends) (c .lacks-alike .result) (c .lacks-alike .ensures)
+
+lacks-sides-requires : tie.Need-lacks-sides-requires
+lacks-sides-requires c κs = let p = c .before .before .before .before .before .before .before .pre in (p, (c .before .before .rows-in2 .ensures, c .before .before .before .before .before .rows-in .ensures .together))
+
+returns-3 : tie.Need-returns-3
+returns-3 c = let a = c .before .before .before .before .before .before .before .before .args in let p = c .before .before .before .before .before .before .before .before .pre in let k = a .clocks .count in from-all k (now (a .list)) (a .count) (bounds-of (a .clocks)) (edge-of k (a .e)) _ _ (c .before .before .before .before .before .before .rows-in .ensures .starts) (c .before .before .before .before .before .before .rows-in .ensures .together) (p .ascends) (c .lacks-sides .result) (c .lacks-sides .ensures)
 
 pub lacks-by-edge-spec : {M : Type 1} → statement M
 lacks-by-edge-spec =
@@ -36,5 +45,8 @@ lacks-by-edge-spec =
     lacks-image-requires
     returns
     rows-in-requires-2
+    reads-none-requires
+    lacks-alike-requires
+    returns-2
     lacks-sides-requires
-    returns-2)
+    returns-3)
