@@ -29,8 +29,8 @@
  * The release, as text and as a number: 10,000 for each major, 100 for each minor, 1 for each patch. From 1.1.0 on a table may have
  * comparison 5, not equal; 1.0.0 refuses it as out of range (TZELMARUF_TABLE_RANGE).
  */
-#define TZELMARUF_VERSION "1.1.2"
-#define TZELMARUF_VERSION_NUMBER 10102
+#define TZELMARUF_VERSION "1.1.3"
+#define TZELMARUF_VERSION_NUMBER 10103
 
 #ifdef __cplusplus
 extern "C" {

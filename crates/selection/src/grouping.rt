@@ -1,5 +1,5 @@
 // Rows of many groups, of which one each is to be walked from: where an edge keeps clocks, or sets one to another's value, it leads no further from a row than
-// from another only if it asks for the same values of those. Rows that do are a group, and each group has four slots for one of them each.
+// from another only if it asks for the same values of those. Rows that do are a group, and each group has two slots for one of them each.
 ghost use mathlib.Core.Path.{_≡_};
 ghost use mathlib.Core.Bool.{false};
 ghost use Prim.Native.Nat.{ℕ, _≤_, _<_};
