@@ -35,10 +35,9 @@ HeldWalked c e n list count slots zero = HeldLead c e n list (has (listed-rows n
 HeldWalked c e n list count slots (suc i) = NextListed (edge-rows c e) (listed-rows n list count) (suc i)
 
 -- .. from all rows from lo to before hi that are newly taken
-abbrev pub Grouped : List ℕ → Edge → ℕ → List ℕ → ℕ → ℕ → ℕ → List Bool → List Bool → ℕ → Type 0
-Grouped c e n list count lo hi ts ts′ zero =
-    (j : ℕ) → lo ≤ j → j < hi → taken-at ts′ j ≡ true → (taken-at ts j ≡ true) ⊎ Leads c e n list (has (listed-rows n list count)) j
-Grouped c e n list count lo hi ts ts′ (suc i) = NextListed (edge-rows c e) (listed-rows n list count) (suc i)
+pub record Grouped (c : List ℕ) (e : Edge) (n : ℕ) (list : List ℕ) (count lo hi : ℕ) (ts ts′ : List Bool) (place : ℕ) : Type 0 where
+  pub none : place ≡ 0 → (j : ℕ) → lo ≤ j → j < hi → taken-at ts′ j ≡ true → (taken-at ts j ≡ true) ⊎ Leads c e n list (has (listed-rows n list count)) j
+  pub some : (i : ℕ) → place ≡ suc i → NextListed (edge-rows c e) (listed-rows n list count) (suc i)
 
 -- .. from all rows from lo to before hi
 abbrev pub FromAll : List ℕ → Edge → ℕ → List ℕ → ℕ → ℕ → ℕ → ℕ → Type 0

@@ -124,7 +124,7 @@ fn lacks_groups(
 }
 
 // The place of a row from start to before end that lacks a next row by the edge, or 0. It is walked only from rows that it leads furthest from: one of
-// each group, then as many of the others as there is room for, and what had to be left out comes the next time.
+// each group, and others of the same groups, then as many of what is left as there is room for. What had to be left out comes the next time.
 pub fn lacks_walks(
     list: &[u8],
     clocks: Clocks,
@@ -147,6 +147,11 @@ pub fn lacks_walks(
         let lacking = lacks_groups(list, clocks, count, e, into, from, end, &mut taken[..]);
         if lacking != 0 {
             return lacking;
+        }
+        // again, for other rows of the same groups
+        let more = lacks_groups(list, clocks, count, e, into, from, end, &mut taken[..]);
+        if more != 0 {
+            return more;
         }
         let chosen = choose(
             list,

@@ -81,8 +81,11 @@ module _ (c : List ℕ) (e : Edge) (n : ℕ) (list : List ℕ) where
     -- what they tell of the rows that were offered to them
     pub grouped-held : (lo hi : ℕ) (ts ts′ : List Bool) (start : List ℕ) → Groups c e n list lo hi ts ts′ start slots → (place : ℕ) → HeldWalked c e n list count slots place
         → Grouped c e n list count lo hi ts ts′ place
-    grouped-held lo hi ts ts′ start G zero h = G .lead (has (listed-rows n list count)) h
-    grouped-held lo hi ts ts′ start G (suc i) h = h
+    grouped-held lo hi ts ts′ start G place h = record { none = λ z. G .lead (has (listed-rows n list count)) (rw z at h); some = λ i q. rw q at h }
+
+  -- no row was offered
+  pub grouped-none : (count lo hi : ℕ) (ts : List Bool) → Grouped c e n list count lo hi ts ts 0
+  grouped-none count lo hi ts = record { none = λ z j a b t. inl t; some = λ i q. absurd (omega (arith, q)) }
 
   -- as many as there is room for at a time ------------------------------------------------------------------------------------------------
 
@@ -123,16 +126,16 @@ module _ (c : List ℕ) (e : Edge) (n : ℕ) (list : List ℕ) where
           earlier j a b (no k) = chosen j (omega arith) (omega (arith, C .within)) (C .taken j (omega arith) b)
 
     -- rows of groups are taken too
-    pub turning-grouped : (from : ℕ) (ts ts′ : List Bool) → Turning from ts → Grouped c e n list count from end ts ts′ 0 → Turning from ts′
-    turning-grouped from ts ts′ T G = record { after = T .after; within = T .within; before = T .before; taken = λ j a b t. go j a b (G j a b t) }
+    pub turning-grouped : (from : ℕ) (ts ts′ : List Bool) (place : ℕ) → Turning from ts → Grouped c e n list count from end ts ts′ place → place ≡ 0 → Turning from ts′
+    turning-grouped from ts ts′ place T G z = record { after = T .after; within = T .within; before = T .before; taken = λ j a b t. go j a b (G .none z j a b t) }
       where
         go : (j : ℕ) → from ≤ j → j < end → (taken-at ts j ≡ true) ⊎ Leads c e n list p j → Leads c e n list p j
         go j a b (inl k) = T .taken j a b k
         go j a b (inr k) = k
 
     pub grouped-from : (lo : ℕ) (ts ts′ : List Bool) (place : ℕ) → (place ≡ 0 → ⊥) → Grouped c e n list count lo end ts ts′ place → FromAll c e n list count start end place
-    grouped-from lo ts ts′ zero z h = absurd (z refl)
-    grouped-from lo ts ts′ (suc i) z h = h
+    grouped-from lo ts ts′ zero z G = absurd (z refl)
+    grouped-from lo ts ts′ (suc i) z G = G .some i refl
 
     pub turning-ends : (from : ℕ) (ts : List Bool) → Turning from ts → end ≤ from → FromAll c e n list count start end 0
     turning-ends from ts T h j a b = T .before j a (omega arith)

@@ -1,6 +1,5 @@
-use Rattle.region_lists.proofs.Laws.Turning.{grouped-held}
+use Rattle.region_lists.proofs.Laws.Turning.{grouped-none, grouped-held}
 use Rattle.selection.proofs.Laws.Grouping.{none-held, groups-wider, groups-twice}
-use mathlib.Core.Logic.{inl}
 use Rattle.listed_rows.specs.Listed.{listed-rows}
 use Rattle.regions.specs.Values.{bounds-of, edge-of}
 use Rattle.automata.specs.Clocks.{at}
@@ -19,7 +18,7 @@ has-groups-requires : tie.Need-has-groups-requires
 has-groups-requires c κs = c .before .before .pre .0 .listed .few .few
 
 returns : tie.Need-returns
-returns c = λ j h l t. inl t
+returns c = grouped-none _ _ _ _ _ _ _ _
 
 slice-aggregate-lodge-all : tie.Need-slice-aggregate-lodge-all
 slice-aggregate-lodge-all c = search needs
