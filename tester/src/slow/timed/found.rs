@@ -174,10 +174,48 @@ fn not_equal() -> Vec<TimedList> {
     ]
 }
 
+/// Lists that the search found to be the slowest, once or now.
+fn searched() -> Vec<TimedList> {
+    let kept = [Update::to_clock(NotEqual, 3, 127), KEPT, KEPT, KEPT];
+    let second = Update::to_clock(NotEqual, 1, 0);
+    let of_second = [second, second, second, KEPT];
+    let first = itself(NotEqual, 0);
+    let of_first = [
+        first,
+        itself(NotEqual, 1),
+        Update::to_clock(NotEqual, 0, 0),
+        KEPT,
+    ];
+    vec![
+        TimedList::new(
+            "found by the search, three clocks kept",
+            1,
+            copies(&[16, 38, 39, 39], &kept),
+            Rows::Reached(vec![]),
+        ),
+        all(
+            "found by the search, ≠ the second clock, one kept",
+            &[0, 1, 1, 34],
+            &of_second,
+        ),
+        all(
+            "found by the search, ≠ the first clock or itself, one kept",
+            &[3, 0, 3, 6],
+            &of_first,
+        ),
+    ]
+}
+
 /// All of these.
 pub fn lists() -> Vec<TimedList> {
     let mut lists = vec![list_f1(), list_a("A"), list_a_open(), mixed()];
-    for more in [both_ways(), useless(), equal_kept(), not_equal()] {
+    for more in [
+        both_ways(),
+        useless(),
+        equal_kept(),
+        not_equal(),
+        searched(),
+    ] {
         lists.extend(more);
     }
     lists
