@@ -94,8 +94,8 @@ fn lacks_held(list: &[u8], clocks: Clocks, count: usize, e: Edge, into: Span, sl
     0
 }
 
-// The place of a row from start to before end that lacks a next row by the edge, or 0: of rows that are not taken one of each group is walked from, as far as
-// groups have slots of their own. Then all of those are taken.
+// The place of a row from start to before end that lacks a next row by the edge, or 0: of rows that are not taken one or two of each group are walked from, as
+// far as groups find slots. Then all rows are taken that one of these covers.
 fn lacks_groups(
     list: &[u8],
     clocks: Clocks,
@@ -123,8 +123,8 @@ fn lacks_groups(
     lacks_held(list, clocks, count, e, into, &slots)
 }
 
-// The place of a row from start to before end that lacks a next row by the edge, or 0. It is walked only from rows that it leads furthest from: one of
-// each group, and others of the same groups, then as many of what is left as there is room for. What had to be left out comes the next time.
+// The place of a row from start to before end that lacks a next row by the edge, or 0. It is walked only from rows that it leads furthest from: one or
+// two of each group, and others of the same groups, then as many of what is left as there is room for. What had to be left out comes the next time.
 pub fn lacks_walks(
     list: &[u8],
     clocks: Clocks,

@@ -1,4 +1,4 @@
-// Rows of many groups, of which one each is to be walked from: where an edge keeps clocks, or sets one to another's value, it leads no further from a row than
+// Rows of many groups, of which few each are to be walked from: where an edge keeps clocks, or sets one to another's value, it leads no further from a row than
 // from another only if it asks for the same values of those. Rows that do are a group, and each group has two slots for one of them each.
 ghost use mathlib.Core.Path.{_≡_};
 ghost use mathlib.Core.Bool.{false};
