@@ -1,14 +1,17 @@
 -- The laws of the four calls, for the crates above, in the order in which they rest on each other.
 -- values
 pub mod RecordReads
--- region lists
+-- row records
 pub mod Rows
-pub mod Lacking
-pub mod RegionLists
 -- run lists
 pub mod Steps
 pub mod Moves
 pub mod Runs
+-- what is refused
+pub mod Refusals
+-- region lists
+pub mod Open
+pub mod RegionLists
 -- following
 pub mod Follow
 -- long files

@@ -1,7 +1,7 @@
 -- What the answers mean: the words of the main theorems. Assumes nothing.
 use Prim.Native.Nat.{ℕ, suc, _≤_, _<_}
 use mathlib.Core.Path.{_≡_}
-use mathlib.Core.Bool.{true}
+use mathlib.Core.Bool.{true, false}
 use mathlib.Core.Logic.{_⊎_, _↔_}
 use mathlib.Core.List.{List, _++_}
 use lib.ListN.{length, drop, getD}
@@ -10,7 +10,7 @@ use Rattle.automata.specs.Row.{Row}
 use Rattle.automata.specs.Automaton.{Table, final}
 use Rattle.automata.specs.Run.{State, Move, Run}
 use Rattle.automata.specs.Next.{TimeSuccessor, EdgeSuccessor, Next}
-use Rattle.automata.specs.Closed.{Mem, Ascends, RowOf, Closed}
+use Rattle.automata.specs.Closed.{Mem, Ascends, first-row, RowOf, Closed}
 use Rattle.table_files.specs.Answer.{Answer, accepted, refused, refusals}
 use Rattle.calls.specs.RunFile.{RunList, run-bytes}
 use Rattle.calls.specs.RegionFile.{row-bytes, rows-bytes, list-bytes}
@@ -64,6 +64,19 @@ pub record Lacks (T : Table) (rows : List Row) (place : ℕ) : Type 0 where
   pub next : Row
   pub leads : Next T row next
   pub missing : Mem next rows → ⊥
+
+-- the file is that of a list of at most 4,096 rows that lacks nothing of a closed list but next rows: the row at this place lacks one, and no row
+-- before it does
+pub record OpenListOf (T : Table) (file : List ℕ) (place : ℕ) : Type 0 where
+  pub rows : List Row
+  pub bytes : file ≡ list-bytes rows
+  pub few : length rows ≤ 4096
+  pub ascends : Ascends rows
+  pub are-rows : (r : Row) → Mem r rows → RowOf T r
+  pub starts : Mem (first-row T) rows
+  pub not-final : (r : Row) → Mem r rows → final T (r .location) ≡ false
+  pub lacks : Lacks T rows place
+  pub first : (before : ℕ) → before < place → Lacks T rows before → ⊥
 
 -- following ------------------------------------------------------------------------------------------------------------------
 

@@ -1,7 +1,6 @@
 -- What the program prints. Assumes nothing.
 use Prim.Native.Nat.{ℕ, zero, suc, _/_, _%_}
 use Prim.Native.String.{String, _++_}
-use mathlib.Core.Path.{_≡_}
 use mathlib.Core.Bool.{Bool, true, false, cond}
 use mathlib.Core.List.{List, [], _∷_}
 use lib.ListN.{getD, take}
@@ -11,7 +10,7 @@ use Rattle.table_files.specs.Bytes.{RN}
 use Rattle.table_files.specs.Answer.{Answer, accepted, refused}
 use Rattle.calls.specs.Text.{ascii}
 use Rattle.calls.specs.RunFile.{run-answer}
-use Rattle.calls.specs.RegionFile.{ListAnswer}
+use Rattle.calls.specs.RegionFile.{list-answer}
 
 -- one digit
 abbrev pub digit : ℕ → String
@@ -31,15 +30,15 @@ abbrev pub printed : String → Answer → String
 printed verdict (accepted count) = verdict ++ " " ++ decimal count
 printed verdict (refused number place) = "REFUSED " ++ decimal number ++ " " ++ decimal place
 
--- "RN first means a run, else a region list"; where the place of 17 is free, a line for each place
-abbrev pub PrintedFor : Bool → List ℕ → List ℕ → String → Type 0
-PrintedFor true table file line = line ≡ printed "REACHED" (run-answer table file)
-PrintedFor false table file line = (answer : Answer) × ListAnswer table file answer × (line ≡ printed "EMPTY" answer)
+-- "RN first means a run, else a region list"
+abbrev pub line-for : Bool → List ℕ → List ℕ → String
+line-for true table file = printed "REACHED" (run-answer table file)
+line-for false table file = printed "EMPTY" (list-answer table file)
 
--- the lines that may be printed for the two files
-abbrev pub Printed : List ℕ → List ℕ → String → Type 0
-Printed table file line = PrintedFor (same RN (take 2 file)) table file line
+-- the line that is printed for the two files
+abbrev pub printed-line : List ℕ → List ℕ → String
+printed-line table file = line-for (same RN (take 2 file)) table file
 
--- "prints one line": the bytes that may be written for the two files are such a line in ASCII, and a newline
-abbrev pub Prints : List ℕ → List ℕ → List ℕ → Type 0
-Prints table file bytes = (line : String) × Printed table file line × (bytes ≡ ascii (line ++ "\n"))
+-- "prints one line": the bytes that are written for the two files are that line in ASCII, and a newline
+abbrev pub printed-bytes : List ℕ → List ℕ → List ℕ
+printed-bytes table file = ascii (printed-line table file ++ "\n")

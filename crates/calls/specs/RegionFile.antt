@@ -1,20 +1,19 @@
 -- The region list: reading it and checking it against a table. Assumes nothing.
 use Prim.Native.Nat.{ℕ, _+_, _*_}
-use mathlib.Core.Path.{_≡_}
-use mathlib.Core.Bool.{cond, not}
+use mathlib.Core.Bool.{not}
 use mathlib.Core.List.{List, [], _∷_, _++_}
 use lib.ListN.{length}
 use lib.Dec.{leb, ltb}
 use Rattle.automata.specs.Clocks.{at, each}
 use Rattle.automata.specs.Row.{Row}
 use Rattle.automata.specs.Automaton.{Table, clocks, final}
-use Rattle.automata.specs.Closed.{Mem, first-row}
+use Rattle.automata.specs.Closed.{first-row}
 use Rattle.automata.specs.Rows.{gather, isrowb}
 use Rattle.automata.specs.Next.{next-rows}
 use Rattle.automata.specs.Checks.{every, has, belowb}
 use Rattle.table_files.specs.Bytes.{RL, RW, two, two-bytes}
-use Rattle.table_files.specs.Answer.{Answer, accepted, refused}
-use Rattle.table_files.specs.Reading.{Read, good, bad, Reader, _>>=_, _>>_, done, next-record, require, end, records}
+use Rattle.table_files.specs.Answer.{Answer}
+use Rattle.table_files.specs.Reading.{Read, good, bad, Reader, _>>=_, _>>_, carry, done, next-record, require, end, records, answered}
 use Rattle.table_files.specs.Admission.{admitted}
 
 -- the file -------------------------------------------------------------------------------------------------------------------
@@ -87,51 +86,24 @@ none-final T place (r ∷ rows) = do
   require 15 place (not (final T (r .location)))
   none-final T (place + 1) rows
 
--- 7 to 9, then 14, 15 and 16, "each at its least place"; "The initial row is missing (place 0)"
-unfoldable pub rows-checked : Table → Reader (List Row)
-rows-checked T = do
+-- "A row lacks a next row", "the wait row" or one of "all edge rows", in the list of all the rows; it "shall name the least row that lacks a
+-- next row", and the first of these rows has this place
+unfoldable pub none-open : Table → List Row → ℕ → List Row → Reader (Unit {0})
+none-open T all place [] = done tt
+none-open T all place (r ∷ rows) = do
+  require 17 place (every (has all) (next-rows T r))
+  none-open T all (place + 1) rows
+
+-- 7 to 9, then 14 to 17, "each at its least place"; "The initial row is missing (place 0)"
+unfoldable pub list-checked : Table → Reader (List Row)
+list-checked T = do
   rows ← region-file T
   ascending 1 rows
   none-final T 1 rows
   require 16 0 (has rows (first-row T))
+  none-open T rows 1 rows
   done rows
 
--- "A row lacks a next row", "the wait row" or one of "all edge rows": the places of those of these rows that do, among all the rows
-unfoldable pub lacking : Table → List Row → ℕ → List Row → List ℕ
-lacking T rows place [] = []
-lacking T rows place (r ∷ rest) =
-    let later : List ℕ = lacking T rows (place + 1) rest in
-    cond (every (has rows) (next-rows T r)) later (place ∷ later)
-
--- one answer; or refusal 17 at some one of these places
-pub data Outcome : Type 0 where
-  exactly : Answer → Outcome
-  somewhere : List ℕ → Outcome
-
--- "Acceptance carries the count of .. rows"
-abbrev pub concluded : ℕ → List ℕ → Outcome
-concluded count [] = exactly (accepted count)
-concluded count (place ∷ places) = somewhere (place ∷ places)
-
--- the refusal, or what the rows lack
-abbrev pub judged : Table → Read (List Row) → Outcome
-judged T (good rows rest) = concluded (length rows) (lacking T rows 1 rows)
-judged T (bad number place) = exactly (refused number place)
-
--- "All calls check 1 to 6 first"
-abbrev pub judged-over : Read Table → List ℕ → Outcome
-judged-over (good T rest) file = judged T (rows-checked T file)
-judged-over (bad number place) file = exactly (refused number place)
-
--- the outcome of the check
-unfoldable pub list-outcome : List ℕ → List ℕ → Outcome
-list-outcome table file = judged-over (admitted table) file
-
--- "Only the place in 17 is free among the rows that lack one"
-abbrev pub Permits : Outcome → Answer → Type 0
-Permits (exactly a) answer = answer ≡ a
-Permits (somewhere places) answer = (place : ℕ) × Mem place places × (answer ≡ refused 17 place)
-
--- the answers that the check may give
-abbrev pub ListAnswer : List ℕ → List ℕ → Answer → Type 0
-ListAnswer table file answer = Permits (list-outcome table file) answer
+-- "All calls check 1 to 6 first"; "Acceptance carries the count of .. rows"
+unfoldable pub list-answer : List ℕ → List ℕ → Answer
+list-answer table file = answered length (carry (admitted table) (λ T _. list-checked T file))

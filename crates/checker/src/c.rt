@@ -9,11 +9,11 @@ ghost use Rattle.automata.specs.Row.{Row};
 ghost use Rattle.automata.specs.Automaton.{Admitted};
 ghost use Rattle.automata.specs.Run.{Reached};
 ghost use Rattle.automata.specs.Closed.{Closed, ExactlyOne};
-ghost use Rattle.table_files.specs.Answer.{Answer, packed};
+ghost use Rattle.table_files.specs.Answer.{packed};
 ghost use Rattle.table_files.specs.Admission.{admission, table-of};
 ghost use Rattle.table_files.specs.Meaning.{Passes};
 ghost use Rattle.calls.specs.RunFile.{run-answer};
-ghost use Rattle.calls.specs.RegionFile.{ListAnswer, list-bytes};
+ghost use Rattle.calls.specs.RegionFile.{list-answer, list-bytes};
 ghost use Rattle.calls.specs.Meaning.{RunListOf, RegionListOf};
 use region_lists::region_list::check_regions;
 use run_lists::run::check_run;
@@ -42,7 +42,7 @@ pub extern "C" fn tzelmaruf_check_run(table: &[u8], list: &[u8]) -> u32
 // Checks a region list against a table. A number below 65,536 is the count of rows of a closed list, and then no run ends in a final location.
 #[no_mangle]
 pub extern "C" fn tzelmaruf_check_regions(table: &[u8], list: &[u8]) -> u32
-    ensures answer { λ r. ⌜ ((a : Answer) × ListAnswer (now (table .entry)) (now (list .entry)) a × (r ≡ packed a)) ⌝ }
+    ensures answer { λ r. ⌜ r ≡ packed (list-answer (now (table .entry)) (now (list .entry))) ⌝ }
     ensures closed { λ r. ⌜ ((k : ℕ) → k < 65536 → (r ≡ k) ↔ (Passes (now (table .entry)) × RegionListOf (table-of (now (table .entry))) (now (list .entry)) k)) ⌝ }
     ensures empty { λ r. ⌜ (r < 65536 → Reached (table-of (now (table .entry))) → ⊥) ⌝ }
     ensures complete { λ r. ⌜ (Passes (now (table .entry)) → (rows : List Row) → Closed (table-of (now (table .entry))) rows → length rows ≤ 4096 → now (list .entry) ≡ list-bytes rows → r ≡ length rows) ⌝ }

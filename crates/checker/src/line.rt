@@ -4,7 +4,7 @@ ghost use mathlib.Core.List.{List, _∷_, _++_};
 ghost use Prim.Native.Nat.{ℕ, _+_, _≤_};
 ghost use lib.ListN.{length, take, drop};
 ghost use Rattle.calls.specs.Text.{ascii};
-ghost use Rattle.calls.specs.Program.{decimal, Prints};
+ghost use Rattle.calls.specs.Program.{decimal, printed-bytes};
 ghost use Rattle.checker.specs.declared.verdict.Verdict.the-variants.{Refused};
 ghost use Rattle.checker.specs.Verdict.{line-of, text-of};
 use crate::verdict::Verdict;
@@ -65,7 +65,7 @@ pub fn write_line(out: &mut [u8; 32], verdict: Verdict) -> usize
 // their first 65,536 bytes.
 pub fn print(out: &mut [u8; 32], table: &[u8], paper: &[u8]) -> usize
     ensures few { λ r. ⌜ (r ≤ length (now (out .exit))) × (r ≡ length (take r (now (out .exit)))) ⌝ }
-    ensures prints { λ r. ⌜ ((t p : List ℕ) → now (table .entry) ≡ take 65536 t → now (paper .entry) ≡ take 65536 p → Prints t p (take r (now (out .exit)))) ⌝ }
+    ensures prints { λ r. ⌜ ((t p : List ℕ) → now (table .entry) ≡ take 65536 t → now (paper .entry) ≡ take 65536 p → take r (now (out .exit)) ≡ printed-bytes t p) ⌝ }
 {
     write_line(out, judge(table, paper))
 }

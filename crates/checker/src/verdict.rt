@@ -6,7 +6,7 @@ ghost use lib.ListN.{take};
 ghost use Rattle.automata.specs.Checks.{same};
 ghost use Rattle.table_files.specs.Bytes.{RN};
 ghost use Rattle.tables.specs.Values.{answer-of};
-ghost use Rattle.calls.specs.Program.{printed, Printed};
+ghost use Rattle.calls.specs.Program.{printed, printed-line};
 ghost use Rattle.checker.specs.Verdict.{line-of};
 use region_lists::region_list::check_regions;
 use run_lists::run::check_run;
@@ -50,8 +50,8 @@ fn empty(a: Answer) -> Verdict
 
 // The verdict of a table and a paper. It is the verdict of longer files too, if these are their first 65,536 bytes: no file that is accepted has as many.
 pub fn judge(table: &[u8], paper: &[u8]) -> Verdict
-    ensures whole { λ r. ⌜ Printed (now (table .entry)) (now (paper .entry)) (line-of r) ⌝ }
-    ensures first { λ r. ⌜ ((t p : List ℕ) → now (table .entry) ≡ take 65536 t → now (paper .entry) ≡ take 65536 p → Printed t p (line-of r)) ⌝ }
+    ensures whole { λ r. ⌜ line-of r ≡ printed-line (now (table .entry)) (now (paper .entry)) ⌝ }
+    ensures first { λ r. ⌜ ((t p : List ℕ) → now (table .entry) ≡ take 65536 t → now (paper .entry) ≡ take 65536 p → line-of r ≡ printed-line t p) ⌝ }
 {
     if is_run(paper) {
         return reached(check_run(table, paper));

@@ -2,11 +2,6 @@
 -- region lists
 pub mod ListRecords
 pub mod ListOrder
-pub mod NextRows
-pub mod Together
-pub mod Sole
-pub mod Turning
-pub mod Alike
 pub mod RegionCheck
 -- the calls together
 pub mod RegionCall

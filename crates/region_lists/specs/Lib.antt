@@ -1,3 +1,2 @@
 -- What the passes over a list give.
 pub mod RegionList
-pub mod Leading

@@ -8,18 +8,18 @@ ghost use Rattle.automata.specs.Row.{Row};
 ghost use Rattle.automata.specs.Run.{Reached};
 ghost use Rattle.automata.specs.Closed.{Closed};
 ghost use Rattle.table_files.specs.Answer.{accepted};
+ghost use Rattle.table_files.specs.Reading.{answered};
 ghost use Rattle.table_files.specs.Admission.{table-of};
 ghost use Rattle.table_files.specs.Meaning.{Passes};
 ghost use Rattle.tables.specs.Values.{answer-of, Describes};
-ghost use Rattle.calls.specs.RegionFile.{region-file, rows-of, rows-checked, judged, Permits, ListAnswer, list-bytes};
+ghost use Rattle.calls.specs.RegionFile.{region-file, rows-of, list-checked, list-answer, list-bytes};
 ghost use Rattle.calls.specs.Meaning.{RegionListOf};
 ghost use Rattle.region_lists.specs.RegionList.{Told};
-use crate::leading::lacks_by_edges;
 use crate::list_order::first_final;
 use crate::list_order::first_unordered;
 use crate::list_records::read_list;
-use crate::waiting::lacks_wait;
 use listed_rows::listed::is_listed;
+use open_rows::open::first_open;
 use rows::row::initial_row;
 use table_records::head::Head;
 use tables::admission::open;
@@ -30,7 +30,7 @@ fn check_rows(table: &[u8], head: Head, list: &[u8], count: u16) -> Answer
     requires { ⌜ Describes (now table) head ⌝ }
     requires { ⌜ Told (region-file (table-of (now table)) (now list)) 0 0 ⌝ }
     requires { ⌜ length (rows-of (table-of (now table)) (now list)) ≡ count ⌝ }
-    ensures { λ r. ⌜ Permits (judged (table-of (now (table .entry))) (rows-checked (table-of (now (table .entry))) (now (list .entry)))) (answer-of r) ⌝ }
+    ensures { λ r. ⌜ answer-of r ≡ answered length (list-checked (table-of (now (table .entry))) (now (list .entry))) ⌝ }
 {
     let clocks = head.clocks;
     let rows = count as usize;
@@ -46,20 +46,16 @@ fn check_rows(table: &[u8], head: Head, list: &[u8], count: u16) -> Answer
     if !is_listed(list, clocks, rows, initial) {
         return Answer::Refused(16, 0);
     }
-    let waiting = lacks_wait(list, clocks, rows);
-    if waiting != 0 {
-        return Answer::Refused(17, waiting);
-    }
-    let leading = lacks_by_edges(table, head, list, rows);
-    if leading != 0 {
-        return Answer::Refused(17, leading);
+    let first = first_open(table, head, list, rows);
+    if first < rows {
+        return Answer::Refused(17, (first + 1) as u16);
     }
     Answer::Accepted(count)
 }
 
 // Checks a region list against a table: refusals 1 to 9 and 14 to 17, or the count of rows.
 pub fn check_regions(table: &[u8], list: &[u8]) -> Answer
-    ensures answer { λ r. ⌜ ListAnswer (now (table .entry)) (now (list .entry)) (answer-of r) ⌝ }
+    ensures answer { λ r. ⌜ answer-of r ≡ list-answer (now (table .entry)) (now (list .entry)) ⌝ }
     ensures closed { λ r. ⌜ ((k : ℕ) → (answer-of r ≡ accepted k) ↔ (Passes (now (table .entry)) × RegionListOf (table-of (now (table .entry))) (now (list .entry)) k)) ⌝ }
     ensures empty { λ r. ⌜ ((k : ℕ) → answer-of r ≡ accepted k → Reached (table-of (now (table .entry))) → ⊥) ⌝ }
     ensures complete { λ r. ⌜ (Passes (now (table .entry)) → (rows : List Row) → Closed (table-of (now (table .entry))) rows → length rows ≤ 4096 → now (list .entry) ≡ list-bytes rows → answer-of r ≡ accepted (length rows)) ⌝ }

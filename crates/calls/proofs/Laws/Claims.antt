@@ -18,7 +18,7 @@ use Rattle.table_files.specs.Bytes.{AreBytes}
 use Rattle.table_files.specs.Answer.{accepted}
 use Rattle.table_files.specs.Admission.{admission, table-of}
 use Rattle.calls.specs.RunFile.{RunList, run-bytes, run-answer}
-use Rattle.calls.specs.RegionFile.{rows-of, list-bytes, exactly, list-outcome, ListAnswer}
+use Rattle.calls.specs.RegionFile.{rows-of, list-bytes, list-answer}
 use Rattle.table_files.specs.Meaning.{Passes, Limits}
 use Rattle.calls.specs.Meaning.{Reaches, Follows}
 use Rattle.table_files.proofs.Laws.Admission.{admission-admitted, admission-limits}
@@ -30,12 +30,12 @@ use Rattle.calls.proofs.Laws.Runs
 pub exactly-one : (table : List ℕ) (k : ℕ) → admission table ≡ accepted k → ExactlyOne (Reached (table-of table)) ((rows : List Row) × Closed (table-of table) rows)
 exactly-one table k h = Index.exactly-one (table-of table) (admission-admitted table k h)
 
-pub list-empty : (table file : List ℕ) (k : ℕ) → ListAnswer table file (accepted k)
+pub list-empty : (table file : List ℕ) (k : ℕ) → list-answer table file ≡ accepted k
     → (length (rows-of (table-of table) file) ≡ k) × Closed (table-of table) (rows-of (table-of table) file) × (Reached (table-of table) → ⊥)
 list-empty table file k h = let (_, n, _, c, _) = RegionLists.list-accepted table file k h in (n, c, Index.sound (table-of table) (rows-of (table-of table) file) c)
 
 pub closed-accepted : (table : List ℕ) → Passes table → (rows : List Row) → Closed (table-of table) rows → length rows ≤ 4096
-    → AreBytes (list-bytes rows) × (list-outcome table (list-bytes rows) ≡ exactly (accepted (length rows)))
+    → AreBytes (list-bytes rows) × (list-answer table (list-bytes rows) ≡ accepted (length rows))
 closed-accepted table (k, p) rows C l =
     (list-are-bytes (table-of table) (admission-limits table k p) rows (C .are-rows) l, RegionLists.closed-accepted table (k, p) rows C l)
 

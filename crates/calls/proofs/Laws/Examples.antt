@@ -14,9 +14,9 @@ use Rattle.table_files.specs.Reading.{carry, next-bytes, require, end, next-rec
 use Rattle.table_files.specs.TableFile.{header, location, edge-record, table-file}
 use Rattle.table_files.specs.Admission.{edges-bounded, admitted, admission}
 use Rattle.calls.specs.RunFile.{step-record, run-file, steps-taken, run-checked, run-answer}
-use Rattle.calls.specs.RegionFile.{row-width, row-record, region-file, ascending, none-final, rows-checked, lacking, exactly, somewhere, list-outcome}
+use Rattle.calls.specs.RegionFile.{row-width, row-record, region-file, ascending, none-final, none-open, list-checked, list-answer}
 use Rattle.calls.specs.Follow.{followed, rows-followed, following, follow-answer, follow-buffer}
-use Rattle.calls.specs.Program.{decimal, Printed}
+use Rattle.calls.specs.Program.{decimal, printed-line}
 
 -- P1's table; comparison is the second guard's, < there
 abbrev pub table : ℕ → List ℕ
@@ -78,14 +78,14 @@ Gives t r number rows after =
 pub examples :
     -- P1
     ((admission (table 0) ≡ accepted 6)
-    × (list-outcome (table 0) (region-list 8 (seven-rows ++ last-row)) ≡ exactly (accepted 8))
-    × Printed (table 0) (region-list 8 (seven-rows ++ last-row)) "EMPTY 8")
+    × (list-answer (table 0) (region-list 8 (seven-rows ++ last-row)) ≡ accepted 8)
+    × (printed-line (table 0) (region-list 8 (seven-rows ++ last-row)) ≡ "EMPTY 8"))
     -- P2
-    × (list-outcome (table 0) (region-list 7 seven-rows) ≡ somewhere (6 ∷ 7 ∷ []))
+    × ((list-answer (table 0) (region-list 7 seven-rows) ≡ refused 17 6) × (printed-line (table 0) (region-list 7 seven-rows) ≡ "REFUSED 17 6"))
     -- P3
-    × (list-outcome (table 0) (region-list 0 []) ≡ exactly (refused 16 0))
+    × (list-answer (table 0) (region-list 0 []) ≡ refused 16 0)
     -- P4
-    × (Printed (table 0) run-list "REFUSED 11 2" × Printed (table 1) run-list "REACHED 2")
+    × ((printed-line (table 0) run-list ≡ "REFUSED 11 2") × (printed-line (table 1) run-list ≡ "REACHED 2"))
     -- P5
     × Gives (loop (3 ∷ 2 ∷ []) (upd 2 4 1 0 2 ∷ upd 0 0 0 0 0 ∷ [])) (row (3 ∷ 1 ∷ []) (1 ∷ 2 ∷ [])) 0
     (row (5 ∷ 1 ∷ []) (2 ∷ 1 ∷ []) ∷ row (6 ∷ 1 ∷ []) (0 ∷ 1 ∷ []) ∷ row (7 ∷ 1 ∷ []) (0 ∷ 1 ∷ []) ∷ []) 39
@@ -109,7 +109,7 @@ unfolding
     some-answer relation fits clock-fits allb someb openb heldb clockb isrowb rows-at guardsb some-evenb growsb least rank-fits greedy placedb leadsb edge-rows wait-rows time-successors edge-successors
     header location edge-record table-file edges-bounded admitted admission
     step-record run-file steps-taken run-checked run-answer
-    row-width row-record region-file ascending none-final rows-checked next-rows lacking list-outcome
+    row-width row-record region-file ascending none-final next-rows none-open list-checked list-answer
     followed rows-followed following follow-answer follow-buffer decimal
 examples =
-    ((refl, refl, (accepted 8, refl, refl)), refl, refl, (refl, refl), (refl, refl), (refl, refl), (refl, refl), (refl, refl), refl, (refl, refl))
+    ((refl, refl, refl), (refl, refl), refl, (refl, refl), (refl, refl), (refl, refl), (refl, refl), (refl, refl), refl, (refl, refl))

@@ -1,6 +1,5 @@
 -- The main theorems, each stated whole. Assumes nothing.
 use Prim.Native.Nat.{ℕ, _*_, _≤_, _<_}
-use Prim.Native.String.{String}
 use mathlib.Core.Path.{_≡_}
 use mathlib.Core.Logic.{_⊎_, _↔_}
 use mathlib.Core.List.{List}
@@ -10,17 +9,17 @@ use Rattle.automata.specs.Point.{Contains, later, scaled}
 use Rattle.automata.specs.Automaton.{Table, Admitted}
 use Rattle.automata.specs.Run.{Reached}
 use Rattle.automata.specs.Next.{TimeSuccessor}
-use Rattle.automata.specs.Closed.{Mem, RowOf, Closed, ExactlyOne}
+use Rattle.automata.specs.Closed.{RowOf, Closed, ExactlyOne}
 use Rattle.table_files.specs.Bytes.{AreBytes}
 use Rattle.table_files.specs.Answer.{Answer, accepted, refused, packed}
 use Rattle.table_files.specs.Admission.{admission, table-of}
 use Rattle.calls.specs.RunFile.{RunList, run-bytes, run-answer}
-use Rattle.calls.specs.RegionFile.{rows-of, row-bytes, rows-bytes, list-bytes, exactly, somewhere, list-outcome, ListAnswer}
-use Rattle.calls.specs.Program.{Printed}
+use Rattle.calls.specs.RegionFile.{rows-of, row-bytes, rows-bytes, list-bytes, list-answer}
+use Rattle.calls.specs.Program.{printed-line}
 use Rattle.calls.specs.Follow.{followed, follow-answer, follow-buffer}
 use Rattle.table_files.specs.Meaning.{Passes, Limits}
 use Rattle.table_files.specs.TableBytes.{TableOf}
-use Rattle.calls.specs.Meaning.{Small, Reaches, RunListOf, RegionListOf, Lacks, Follows, Written}
+use Rattle.calls.specs.Meaning.{Small, Reaches, RunListOf, RegionListOf, OpenListOf, Follows, Written}
 use Rattle.table_files.proofs.Laws.Admission
 use Rattle.table_files.proofs.Laws.TableBytes
 use Rattle.calls.proofs.Laws.RegionLists
@@ -47,7 +46,7 @@ admission-small = SmallAnswers.admission-small
 pub run-small : (table file : List ℕ) → Small (run-answer table file)
 run-small = SmallAnswers.run-small
 
-pub list-small : (table file : List ℕ) (a : Answer) → ListAnswer table file a → Small a
+pub list-small : (table file : List ℕ) → Small (list-answer table file)
 list-small = SmallAnswers.list-small
 
 pub packed-law : (a b : Answer) → Small a → Small b → packed a ≡ packed b → a ≡ b
@@ -60,15 +59,15 @@ admission-prefix = Prefix.admission-prefix
 pub run-prefix : (n : ℕ) → 49158 < n → (table file : List ℕ) → run-answer table (take n file) ≡ run-answer table file
 run-prefix = Prefix.run-prefix
 
-pub list-prefix : (n : ℕ) → 45060 < n → (table file : List ℕ) → list-outcome table (take n file) ≡ list-outcome table file
+pub list-prefix : (n : ℕ) → 45060 < n → (table file : List ℕ) → list-answer table (take n file) ≡ list-answer table file
 list-prefix = Prefix.list-prefix
 
 pub follow-prefix : (n : ℕ) → 11 < n → (table row : List ℕ) (number : ℕ) (buffer : List ℕ)
     → (follow-answer table (take n row) number buffer ≡ follow-answer table row number buffer) × (follow-buffer table (take n row) number buffer ≡ follow-buffer table row number buffer)
 follow-prefix = Prefix.follow-prefix
 
--- so many bytes of both files tell what may be printed
-pub printed-prefix : (table file : List ℕ) (line : String) → Printed (take 65536 table) (take 65536 file) line → Printed table file line
+-- so many bytes of both files tell what is printed
+pub printed-prefix : (table file : List ℕ) → printed-line (take 65536 table) (take 65536 file) ≡ printed-line table file
 printed-prefix = Prefix.printed-prefix
 
 -- demand 2: what acceptance means --------------------------------------------------------------------------------------------
@@ -98,12 +97,11 @@ pub run-accepts : (table : List ℕ) → Passes table → (list : RunList) → R
 run-accepts = Claims.run-accepts
 
 -- "A region list is accepted exactly when it holds the start, no final location, and every next region that waiting or an edge leads to"
-pub list-law : (table file : List ℕ) (k : ℕ) → AreBytes file → ListAnswer table file (accepted k) ↔ (Passes table × RegionListOf (table-of table) file k)
+pub list-law : (table file : List ℕ) (k : ℕ) → AreBytes file → (list-answer table file ≡ accepted k) ↔ (Passes table × RegionListOf (table-of table) file k)
 list-law = RegionLists.list-law
 
--- 17 is given at the place of any row that lacks a next row, and of no other
-pub list-seventeen : (table file places : List ℕ) → list-outcome table file ≡ somewhere places
-    → (place : ℕ) → Mem place places ↔ Lacks (table-of table) (rows-of (table-of table) file) place
+-- 17 is given at a place just if the row there lacks a next row and no row before it does
+pub list-seventeen : (table file : List ℕ) (place : ℕ) → AreBytes file → (list-answer table file ≡ refused 17 place) ↔ (Passes table × OpenListOf (table-of table) file place)
 list-seventeen = RegionLists.list-seventeen
 
 -- "The next regions written for an edge are all those that some point of the region reaches by it, and only those; for waiting, .."
@@ -135,13 +133,13 @@ pub exactly-one : (table : List ℕ) (k : ℕ) → admission table ≡ accepted 
 exactly-one = Claims.exactly-one
 
 -- "If a region list is accepted, it is closed, and no run of its table ends in a final location"
-pub list-empty : (table file : List ℕ) (k : ℕ) → ListAnswer table file (accepted k)
+pub list-empty : (table file : List ℕ) (k : ℕ) → list-answer table file ≡ accepted k
     → (length (rows-of (table-of table) file) ≡ k) × Closed (table-of table) (rows-of (table-of table) file) × (Reached (table-of table) → ⊥)
 list-empty = Claims.list-empty
 
 -- "If a closed list has at most 4,096 rows, its file is accepted"
 pub closed-accepted : (table : List ℕ) → Passes table → (rows : List Row) → Closed (table-of table) rows → length rows ≤ 4096
-    → AreBytes (list-bytes rows) × (list-outcome table (list-bytes rows) ≡ exactly (accepted (length rows)))
+    → AreBytes (list-bytes rows) × (list-answer table (list-bytes rows) ≡ accepted (length rows))
 closed-accepted = Claims.closed-accepted
 
 -- an accepted run list shows the first of the two

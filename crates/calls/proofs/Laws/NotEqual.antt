@@ -13,9 +13,9 @@ use Rattle.table_files.specs.Reading.{carry, next-bytes, require, end, next-rec
 use Rattle.table_files.specs.TableFile.{header, location, edge-record, table-file}
 use Rattle.table_files.specs.Admission.{edges-bounded, admitted, admission}
 use Rattle.calls.specs.RunFile.{step-record, run-file, steps-taken, run-checked, run-answer}
-use Rattle.calls.specs.RegionFile.{row-width, row-record, region-file, ascending, none-final, rows-checked, lacking, list-outcome}
+use Rattle.calls.specs.RegionFile.{row-width, row-record, region-file, ascending, none-final, none-open, list-checked, list-answer}
 use Rattle.calls.specs.Follow.{followed, rows-followed, following, follow-answer, follow-buffer}
-use Rattle.calls.specs.Program.{decimal, Printed}
+use Rattle.calls.specs.Program.{decimal, printed-line}
 use Rattle.calls.proofs.Laws.Examples.{table, region-list, run-list, loop, upd, row, Gives}
 use Rattle.calls.proofs.Laws.Samples.{step, run}
 
@@ -57,9 +57,9 @@ pub not-equal :
     -- "The bound rules cover it too"
     × ((admission (loop (2 ∷ []) (upd 1 5 0 0 3 ∷ [])) ≡ refused 5 2) × (admission (loop (2 ∷ []) (upd 2 5 0 0xFF 0xFF ∷ [])) ≡ refused 6 2))
     -- P1's table is empty with < in its second guard; with ≠ its final location is entered past 2, and not at 2
-    × (Printed (table 5) later-run "REACHED 2" × Printed (table 5) run-list "REFUSED 11 2")
+    × ((printed-line (table 5) later-run ≡ "REACHED 2") × (printed-line (table 5) run-list ≡ "REFUSED 11 2"))
     -- a table that is empty with ≠, and with ≤ is not
-    × (Printed (pinned 5) (region-list 6 six-rows) "EMPTY 6" × Printed (pinned 1) one-step "REACHED 1")
+    × ((printed-line (pinned 5) (region-list 6 six-rows) ≡ "EMPTY 6") × (printed-line (pinned 1) one-step ≡ "REACHED 1"))
     -- in an open interval, every part but the old one
     × Gives (loop (1 ∷ 1 ∷ []) (upd 2 5 1 0 0 ∷ upd 0 0 0 0 0 ∷ [])) (row (1 ∷ 1 ∷ []) (1 ∷ 1 ∷ [])) 0
     (row (0 ∷ 1 ∷ []) (0 ∷ 1 ∷ []) ∷ row (1 ∷ 1 ∷ []) (1 ∷ 2 ∷ []) ∷ row (1 ∷ 1 ∷ []) (2 ∷ 1 ∷ [])
@@ -74,7 +74,7 @@ unfolding
     some-answer relation fits clock-fits allb someb openb heldb clockb isrowb rows-at guardsb some-evenb growsb least rank-fits greedy placedb leadsb edge-rows wait-rows time-successors edge-successors
     header location edge-record table-file edges-bounded admitted admission
     step-record run-file steps-taken run-checked run-answer
-    row-width row-record region-file ascending none-final rows-checked next-rows lacking list-outcome
+    row-width row-record region-file ascending none-final next-rows none-open list-checked list-answer
     followed rows-followed following follow-answer follow-buffer decimal
 not-equal =
-    ((refl, refl, refl, refl, refl), (refl, refl), (refl, refl), ((accepted 6, refl, refl), refl), (refl, refl), (refl, refl), (refl, refl))
+    ((refl, refl, refl, refl, refl), (refl, refl), (refl, refl), (refl, refl), (refl, refl), (refl, refl), (refl, refl))

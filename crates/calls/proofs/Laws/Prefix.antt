@@ -3,7 +3,6 @@ use Prim.Native.Nat.{ℕ, zero, suc, _+_, _*_, _≤_, _<_}
 use native.Mathlib.Omega.{arith}
 use native.Mathlib.Decide.{decLe}
 use native.Mathlib.Nat.{suc-mul}
-use Prim.Native.String.{String}
 use mathlib.Core.Path.{_≡_, refl, sym, ap, _∙_}
 use mathlib.Core.Bool.{Bool, true, false, cond}
 use mathlib.Core.List.{List, [], _∷_, _++_}
@@ -20,9 +19,9 @@ use Rattle.table_files.specs.Reading.{Read, good, bad, Reader, carry, done, nex
 use Rattle.table_files.specs.TableFile.{header, location, edge-record, table-file}
 use Rattle.table_files.specs.Admission.{admitted, admission}
 use Rattle.calls.specs.RunFile.{RunList, step-record, run-file, run-checked, run-answer}
-use Rattle.calls.specs.RegionFile.{row-width, row-record, region-file, rows-checked, list-outcome, judged, judged-over}
+use Rattle.calls.specs.RegionFile.{row-width, row-record, region-file, list-checked, list-answer}
 use Rattle.calls.specs.Follow.{rows-followed, following, follow-answer, written, follow-buffer}
-use Rattle.calls.specs.Program.{PrintedFor, Printed}
+use Rattle.calls.specs.Program.{printed, line-for, printed-line}
 use Rattle.table_files.proofs.Laws.Reading.{not-good, parts, between-law}
 use Rattle.table_files.proofs.Laws.Tables.{HeaderIn, header-in}
 use Rattle.table_files.proofs.Laws.Admission.{read-limits}
@@ -228,8 +227,8 @@ module _ (T : Table) (few : clocks T ≤ 4) where
   unfolding run-checked
   run-prefix-of n l file = rw (settled-take (run-file T) 49158 n settled-run l file)
 
-  list-prefix-of : (n : ℕ) → 45060 < n → (file : List ℕ) → rows-checked T (take n file) ≡ rows-checked T file
-  unfolding rows-checked
+  list-prefix-of : (n : ℕ) → 45060 < n → (file : List ℕ) → list-checked T (take n file) ≡ list-checked T file
+  unfolding list-checked
   list-prefix-of n l file = rw (settled-take (region-file T) 45060 n settled-list l file)
 
   settled-follow : (number room : ℕ) → Settled (rows-followed T number room) 11
@@ -250,13 +249,9 @@ pub run-prefix : (n : ℕ) → 49158 < n → (table file : List ℕ) → run-ans
 unfolding run-answer
 run-prefix n l table file = ap (answered (λ (r : RunList). length (r .moves))) (over table _ _ (λ T few. run-prefix-of T few n l file))
 
-pub list-prefix : (n : ℕ) → 45060 < n → (table file : List ℕ) → list-outcome table (take n file) ≡ list-outcome table file
-unfolding list-outcome
-list-prefix n l table file = go (admitted table) refl
-  where
-    go : (r : Read Table) → admitted table ≡ r → judged-over r (take n file) ≡ judged-over r file
-    go (good T rest) e = ap (judged T) (list-prefix-of T (read-limits table T rest e .few-clocks) n l file)
-    go (bad number place) e = refl
+pub list-prefix : (n : ℕ) → 45060 < n → (table file : List ℕ) → list-answer table (take n file) ≡ list-answer table file
+unfolding list-answer
+list-prefix n l table file = ap (answered length) (over table _ _ (λ T few. list-prefix-of T few n l file))
 
 pub follow-prefix : (n : ℕ) → 11 < n → (table row : List ℕ) (number : ℕ) (buffer : List ℕ)
     → (follow-answer table (take n row) number buffer ≡ follow-answer table row number buffer) × (follow-buffer table (take n row) number buffer ≡ follow-buffer table row number buffer)
@@ -265,7 +260,7 @@ follow-prefix n l table row number buffer =
     let e = over table _ _ (λ T few. settled-take (rows-followed T number (length buffer)) 11 n (settled-follow T few number (length buffer)) l row) in
     (ap (answered length) e, ap (λ (r : Read (List Row)). written r buffer) e)
 
--- of both files, what a program prints --------------------------------------------------------------------------------------------
+-- of both files, what the program prints -----------------------------------------------------------------------------------------
 
 first-two : (n : ℕ) → 2 ≤ n → (file : List ℕ) → take 2 (take n file) ≡ take 2 file
 first-two zero h file = absurd (omega arith)
@@ -274,7 +269,7 @@ first-two (suc (suc n)) h [] = refl
 first-two (suc (suc n)) h (x ∷ []) = refl
 first-two (suc (suc n)) h (x ∷ (y ∷ file)) = refl
 
--- the first 65,536 bytes of both files tell what may be printed
+-- the first 65,536 bytes of both files tell what is printed
 module _ (table file : List ℕ) where
   enough-run : run-answer (take 65536 table) (take 65536 file) ≡ run-answer table file
   unfolding run-answer
@@ -282,13 +277,15 @@ module _ (table file : List ℕ) where
       ap (λ (r : Read Table). answered (λ (l : RunList). length (l .moves)) (carry r (λ T _. run-checked T (take 65536 file)))) (admitted-prefix 65536 (omega arith) table)
       ∙ run-prefix 65536 (omega arith) table file
 
-  enough-list : list-outcome (take 65536 table) (take 65536 file) ≡ list-outcome table file
-  unfolding list-outcome
-  enough-list = ap (λ (r : Read Table). judged-over r (take 65536 file)) (admitted-prefix 65536 (omega arith) table) ∙ list-prefix 65536 (omega arith) table file
+  enough-list : list-answer (take 65536 table) (take 65536 file) ≡ list-answer table file
+  unfolding list-answer
+  enough-list =
+      ap (λ (r : Read Table). answered length (carry r (λ T _. list-checked T (take 65536 file)))) (admitted-prefix 65536 (omega arith) table)
+      ∙ list-prefix 65536 (omega arith) table file
 
-  pub printed-prefix : (line : String) → Printed (take 65536 table) (take 65536 file) line → Printed table file line
-  printed-prefix line p = go (same RN (take 2 file)) (rw (first-two 65536 (omega arith) file) at p)
+  pub printed-prefix : printed-line (take 65536 table) (take 65536 file) ≡ printed-line table file
+  printed-prefix = rw (first-two 65536 (omega arith) file) (go (same RN (take 2 file)))
     where
-      go : (b : Bool) → PrintedFor b (take 65536 table) (take 65536 file) line → PrintedFor b table file line
-      go true h = rw enough-run at h
-      go false h = (h .0, rw enough-list at (h .1), h .2)
+      go : (b : Bool) → line-for b (take 65536 table) (take 65536 file) ≡ line-for b table file
+      go true = ap (printed "REACHED") enough-run
+      go false = ap (printed "EMPTY") enough-list

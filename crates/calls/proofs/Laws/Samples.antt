@@ -6,15 +6,15 @@ use lib.ListN.{replicate}
 use Rattle.automata.specs.Comparison.{answer, holds}
 use Rattle.automata.specs.Clocks.{allb, someb}
 use Rattle.automata.specs.Wait.{evenb, entersb, some-evenb, growsb, leave-interval, leave-rank, left, wait}
-use Rattle.automata.specs.Rows.{openb, heldb, clockb, isrowb, gather}
-use Rattle.automata.specs.Successors.{wait-rows}
-use Rattle.automata.specs.Next.{time-successors}
+use Rattle.automata.specs.Rows.{openb, heldb, clockb, isrowb, gather, rows-at}
+use Rattle.automata.specs.Successors.{guardsb, leadsb, wait-rows, edge-rows}
+use Rattle.automata.specs.Next.{time-successors, edge-successors, next-rows}
 use Rattle.table_files.specs.Answer.{refused}
 use Rattle.table_files.specs.Reading.{carry, next-bytes, require, end, next-record, records}
 use Rattle.table_files.specs.TableFile.{header, location, edge-record, table-file}
 use Rattle.table_files.specs.Admission.{edges-bounded, admitted, admission}
 use Rattle.calls.specs.RunFile.{step-record, run-file, steps-taken, run-checked, run-answer}
-use Rattle.calls.specs.RegionFile.{row-width, row-record, region-file, ascending, none-final, rows-checked, exactly, list-outcome}
+use Rattle.calls.specs.RegionFile.{row-width, row-record, region-file, ascending, none-final, none-open, list-checked, list-answer}
 use Rattle.calls.specs.Follow.{followed, rows-followed, following, follow-answer}
 use Rattle.calls.proofs.Laws.Examples.{table, seven-rows, last-row, region-list, run-list, upd}
 
@@ -67,10 +67,12 @@ record Samples : Type 0 where
   eleven-first : run-answer (table 0) (run 1 (step 0 1 9 ∷ [])) ≡ refused 11 1
   not-final : run-answer (table 0) (run 1 (step 0 2 2 ∷ [])) ≡ refused 13 1
   -- "The later checks follow in number order, each at its least place"
-  fourteen-first : list-outcome (table 0) (region-list 3 (at-location 2 0 0 ++ (at-location 0 0 0 ++ at-location 0 0 0))) ≡ exactly (refused 14 2)
-  fifteen-next : list-outcome (table 0) (region-list 2 (at-location 0 1 1 ++ at-location 2 0 0)) ≡ exactly (refused 15 2)
-  sixteen-next : list-outcome (table 0) (region-list 1 (at-location 0 1 1)) ≡ exactly (refused 16 0)
-  list-ends : list-outcome (table 0) (region-list 7 (seven-rows ++ last-row)) ≡ exactly (refused 9 8)
+  fourteen-first : list-answer (table 0) (region-list 3 (at-location 2 0 0 ++ (at-location 0 0 0 ++ at-location 0 0 0))) ≡ refused 14 2
+  fifteen-next : list-answer (table 0) (region-list 2 (at-location 0 1 1 ++ at-location 2 0 0)) ≡ refused 15 2
+  sixteen-next : list-answer (table 0) (region-list 1 (at-location 0 1 1)) ≡ refused 16 0
+  -- "the least row that lacks a next row": here the wait row, and no edge leads on
+  seventeen-last : list-answer (table 0) (region-list 1 (at-location 0 0 0)) ≡ refused 17 1
+  list-ends : list-answer (table 0) (region-list 7 (seven-rows ++ last-row)) ≡ refused 9 8
   -- "All calls check 1 to 6 first"; then 7 to 9, 18 and 19
   table-first : follow-answer [] [] 9 [] ≡ refused 1 0
   row-next : follow-answer (table 0) (at-location 3 0 0) 9 [] ≡ refused 8 0
@@ -83,8 +85,8 @@ unfolding
     carry next-bytes require end next-record records
     header location edge-record table-file allb edges-bounded admitted admission
     answer holds step-record run-file steps-taken run-checked run-answer
-    openb heldb clockb isrowb someb row-width row-record region-file ascending none-final rows-checked list-outcome
-    evenb some-evenb entersb growsb leave-interval leave-rank left wait wait-rows time-successors followed rows-followed following follow-answer
+    openb heldb clockb isrowb someb row-width row-record region-file ascending none-final next-rows none-open list-checked list-answer
+    evenb some-evenb entersb growsb leave-interval leave-rank left wait wait-rows time-successors guardsb leadsb rows-at edge-rows edge-successors followed rows-followed following follow-answer
 samples = record {
   bounds-last = refl;
   bounds-due = refl;
@@ -104,6 +106,7 @@ samples = record {
   fourteen-first = refl;
   fifteen-next = refl;
   sixteen-next = refl;
+  seventeen-last = refl;
   list-ends = refl;
   table-first = refl;
   row-next = refl;

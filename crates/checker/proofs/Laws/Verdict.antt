@@ -2,7 +2,7 @@
 use Prim.Native.Nat.{ℕ}
 use Prim.Native.String.{String}
 use native.Mathlib.Omega.{arith}
-use mathlib.Core.Path.{_≡_, refl, sym}
+use mathlib.Core.Path.{_≡_, refl, sym, _∙_}
 use mathlib.Core.Bool.{Bool, true, false, cond}
 use mathlib.Core.List.{List, [], _∷_}
 use lib.ListN.{length, take}
@@ -10,12 +10,9 @@ use lib.Dec.{eqb}
 use borrow.Author.Tests.{le-leb}
 use Rattle.automata.specs.Checks.{same}
 use Rattle.table_files.specs.Bytes.{RN}
-use Rattle.table_files.specs.Answer.{Answer}
 use Rattle.table_files.specs.Records.{part-at, record-at}
 use Rattle.table_files.proofs.Laws.Records.{mark-short}
-use Rattle.calls.specs.RunFile.{run-answer}
-use Rattle.calls.specs.RegionFile.{ListAnswer}
-use Rattle.calls.specs.Program.{printed, Printed}
+use Rattle.calls.specs.Program.{line-for, printed-line}
 use Rattle.calls.proofs.Laws.Prefix.{printed-prefix}
 
 -- the record of two bytes is there just if the file begins with the mark
@@ -32,13 +29,9 @@ marked (x ∷ (y ∷ file)) = rw (le-leb 2 (length (x ∷ (y ∷ file))) (omega 
 module _ (table file : List ℕ) (line : String) where
   -- the files themselves, and files that begin so
   abbrev pub Told : Type 0
-  Told = Printed table file line × ((t p : List ℕ) → table ≡ take 65536 t → file ≡ take 65536 p → Printed t p line)
+  Told = (line ≡ printed-line table file) × ((t p : List ℕ) → table ≡ take 65536 t → file ≡ take 65536 p → line ≡ printed-line t p)
 
-  told : Printed table file line → Told
-  told h = (h, λ t p e f. printed-prefix t p line (rw (e, f) at h))
-
-  pub run-told : same RN (take 2 file) ≡ true → line ≡ printed "REACHED" (run-answer table file) → Told
-  run-told e h = told (rw e h)
-
-  pub list-told : same RN (take 2 file) ≡ false → (a : Answer) → ListAnswer table file a → line ≡ printed "EMPTY" a → Told
-  list-told e a l h = told (rw e (a, l, h))
+  pub told : (run : Bool) → same RN (take 2 file) ≡ run → line ≡ line-for run table file → Told
+  told run e h =
+      let h′ : line ≡ printed-line table file = rw e h in
+      (h′, λ t p e f. h′ ∙ (λ i. printed-line (e i) (f i)) ∙ printed-prefix t p)

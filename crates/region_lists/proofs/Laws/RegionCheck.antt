@@ -1,43 +1,40 @@
--- The check of a region list, way out by way out: each is what the definitions permit. Assumes nothing.
-use Prim.Native.Nat.{ℕ, zero, suc, _+_, _*_, _≤_, _<_}
-use Rattle.region_lists.proofs.Laws.NextRows.{all-listed}
-use Rattle.regions.proofs.Laws.Values.{row-region}
+-- The check of a region list, way out by way out: each is what the definitions answer. Assumes nothing.
+use Prim.Native.Nat.{ℕ, _+_, _*_, _≤_, _<_}
 use native.Mathlib.Omega.{arith}
 use mathlib.Core.Path.{_≡_, refl, sym, ap, _∙_}
 use mathlib.Core.Bool.{Bool, true, false}
-use mathlib.Core.Logic.{_⊎_, inl, inr}
-use mathlib.Core.List.{List, [], _∷_, List·Memᴰ·not-nil}
+use mathlib.Core.List.{List, []}
 use lib.ListN.{length, getD, drop, length-append, length-replicate}
 use lib.Seq.{drop-at, getD-take}
 use Rattle.automata.specs.Clocks.{at}
 use Rattle.automata.specs.Row.{Row}
 use Rattle.automata.specs.Automaton.{Table, clocks}
 use Rattle.automata.specs.Closed.{Mem, Ascends, first-row, RowOf}
-use Rattle.automata.specs.Successors.{wait-rows}
-use Rattle.automata.specs.Next.{time-successors, by-edges, next-rows}
-use Rattle.automata.specs.Checks.{every, has}
-use Rattle.regions.specs.Values.{bounds-of, row-of, region-of}
+use Rattle.automata.specs.Next.{next-rows}
+use Rattle.automata.specs.Checks.{has}
+use Rattle.automata.proofs.Laws.Tests.{fails}
+use Rattle.regions.specs.Values.{row-of, region-of}
 use Rattle.regions.specs.declared.region.Region.{Region}
-use Rattle.automata.proofs.Laws.Tests.{fails, refutes}
-use Rattle.automata.proofs.Laws.Next.{time-successors-are, next-rows-parts}
+use Rattle.regions.proofs.Laws.Values.{row-region}
 use Rattle.table_files.specs.Bytes.{RL, two}
-use Rattle.table_files.specs.Answer.{accepted, refused}
-use Rattle.table_files.specs.Reading.{Read, good, carry, require}
+use Rattle.table_files.specs.Answer.{Answer, accepted, refused}
+use Rattle.table_files.specs.Reading.{Read, good, bad, carry, done, require, answered}
 use Rattle.table_files.specs.Admission.{table-of}
 use Rattle.table_files.specs.Meaning.{Limits}
 use Rattle.table_files.proofs.Laws.Admission.{admission-limits}
-use Rattle.tables.specs.Values.{Describes}
+use Rattle.table_files.proofs.Laws.Reading.{itself, parts, tested, took-record}
 use Rattle.table_records.specs.declared.head.Head.{Head}
-use Rattle.table_files.proofs.Laws.Reading.{parts, tested, took-record}
-use Rattle.calls.specs.RegionFile.{row-width, region-file, rows-read, rows-of, ascending, none-final, rows-checked, lacking, concluded, judged, Permits}
-use Rattle.listed_rows.specs.Listed.{listed-row, listed-rows, Listed}
-use Rattle.region_lists.specs.RegionList.{Told, passed, NextListed}
+use Rattle.tables.specs.Values.{Describes}
+use Rattle.calls.specs.RegionFile.{row-width, region-file, rows-read, rows-of, ascending, none-final, none-open, list-checked}
 use Rattle.calls.proofs.Laws.Rows.{rows-read-law}
-use Rattle.listed_rows.proofs.Laws.Listed.{listed-length, listed-in}
+use Rattle.calls.proofs.Laws.Open.{full, full-passes, least-refused}
+use Rattle.calls.proofs.Laws.RegionLists.{ascends}
+use Rattle.listed_rows.specs.Listed.{listed-row, listed-rows, Listed}
+use Rattle.listed_rows.proofs.Laws.Listed.{listed-length, listed-at, listed-in, in-listed}
+use Rattle.open_rows.specs.Open.{Inside, FirstOpen}
+use Rattle.region_lists.specs.RegionList.{Told, passed}
 use Rattle.region_lists.proofs.Laws.ListRecords.{was-good, all-there}
 use Rattle.region_lists.proofs.Laws.ListOrder.{passed-at}
-use Rattle.calls.proofs.Laws.Lacking.{getD-any, full, full-law, lacking-law, nothing-lacking}
-use Rattle.calls.proofs.Laws.RegionLists.{ascends}
 
 -- the rows that were read are those that stand in the file
 region-there : (T : Table) (list : List ℕ) (rows : List Row) (rest : List ℕ) → region-file T list ≡ good rows rest
@@ -55,36 +52,28 @@ region-there T list rows rest h =
     let n : length rs ≡ two b 2 = ap length are ∙ listed-length (clocks T) list (two b 2) in
     rw (← x, n) (are, room)
 
--- 17: some row lacks a next row by one rule, or none does by either -----------------------------------------------------------------------
+-- 17 -----------------------------------------------------------------------------------------------------------------------------------------
 
-module _ (T : Table) (rows : List Row) where
-  lacks-one : (next : Row → List Row) → ((r x : Row) → Mem x (next r) → Mem x (next-rows T r)) → (place : ℕ) → (place ≡ 0 → ⊥)
-      → NextListed next rows place → Mem place (lacking T rows 1 rows)
-  lacks-one next part zero h l = absurd (h refl)
-  lacks-one next part (suc i) h (within, b) =
-      let r : Row = getD rows i (first-row T) in
-      lacking-law T rows 1 rows (suc i) .1 (
-        i,
-        within,
-        omega arith,
-        (
-          r,
-          λ d. getD-any rows i within d (first-row T),
-          fails (full T rows r) (full-law T rows r) (λ all.
-              refutes (every (has rows) (next r)) (all-listed rows (next r)) (b (first-row T)) (λ x m. all x (part r x m))),
-        ),
-      )
+module _ (T : Table) (n : ℕ) (list : List ℕ) (count first : ℕ) (F : FirstOpen (Inside (next-rows T) n list count) 0 count first) where
+  abbrev listed : List Row
+  listed = listed-rows n list count
 
-  lacks-none : NextListed (time-successors T) rows 0 → NextListed (by-edges T) rows 0 → lacking T rows 1 rows ≡ []
-  lacks-none u v = nothing-lacking T rows (λ r m. full-law T rows r .1 (λ x k. go r m x (next-rows-parts T r x .0 k)))
-    where
-      go : (r : Row) → Mem r rows → (x : Row) → Mem x (time-successors T r) ⊎ Mem x (by-edges T r) → Mem x rows
-      go r m x (inl k) = all-listed rows (time-successors T r) .0 (u r m) x k
-      go r m x (inr k) = all-listed rows (by-edges T r) .0 (v r m) x k
+  at-place : (i : ℕ) → i < count → (b : Bool) → full T listed (listed-row n list i) ≡ b → full T listed (getD listed i (first-row T)) ≡ b
+  at-place i l b e = ap (full T listed) (listed-at n list count i (first-row T) l) ∙ e
 
-permits-place : (n : ℕ) (places : List ℕ) (place : ℕ) → Mem place places → Permits (concluded n places) (refused 17 place)
-permits-place n [] place m = absurd (List·Memᴰ·not-nil m)
-permits-place n (p ∷ places) place m = (place, m, refl)
+  -- the first row that is open is refused
+  open-refused : first < count → (file : List ℕ) → none-open T listed 1 listed file ≡ bad 17 (first + 1)
+  open-refused l file =
+      least-refused T listed (first-row T) 1 listed file first (record {
+        within = omega (arith, listed-length n list count);
+        here = at-place first l false (fails _ (itself _) (F .here l));
+        before = λ j k. at-place j (omega arith) true (F .before j (omega arith) k);
+      })
+      ∙ ap (bad 17) (omega arith)
+
+  -- and where none is, all pass
+  open-passed : count ≤ first → (file : List ℕ) → none-open T listed 1 listed file ≡ good tt file
+  open-passed l file = full-passes T listed 1 listed file (λ r m. let (i, k, e) = in-listed n list count r m in rw (← e) (F .before i (omega arith) (omega arith)))
 
 -- the rows, pass after pass -----------------------------------------------------------------------------------------------------------------
 
@@ -135,10 +124,13 @@ module _ (table list : List ℕ) (head : Head) (count : ℕ) (D : Describes tabl
   pub list-located : (i : ℕ) → i < count → listed-row (head .clocks .count) list i .location < head .locations
   list-located = ready .located
 
+  abbrev answer : Answer
+  answer = answered length (list-checked T list)
+
   -- 14
   module _ (p14 : ℕ) (e14 : (file : List ℕ) → ascending 1 rows file ≡ passed 14 p14 file) where
-    pub refused-14 : (p14 ≡ 0 → ⊥) → Permits (judged T (rows-checked T list)) (refused 14 p14)
-    unfolding rows-checked carry
+    pub refused-14 : (p14 ≡ 0 → ⊥) → refused 14 p14 ≡ answer
+    unfolding list-checked carry
     refused-14 h = rw (ready .read, e14 (ready .rest), passed-at 14 p14 h (ready .rest)) refl
 
     module _ (z14 : p14 ≡ 0) where
@@ -150,8 +142,8 @@ module _ (table list : List ℕ) (head : Head) (count : ℕ) (D : Describes tabl
 
       -- 15
       module _ (p15 : ℕ) (e15 : (file : List ℕ) → none-final T 1 rows file ≡ passed 15 p15 file) where
-        pub refused-15 : (p15 ≡ 0 → ⊥) → Permits (judged T (rows-checked T list)) (refused 15 p15)
-        unfolding rows-checked carry
+        pub refused-15 : (p15 ≡ 0 → ⊥) → refused 15 p15 ≡ answer
+        unfolding list-checked carry
         refused-15 h = rw (ready .read, pass-14 (ready .rest), e15 (ready .rest), passed-at 15 p15 h (ready .rest)) refl
 
         -- 16
@@ -168,35 +160,20 @@ module _ (table list : List ℕ) (head : Head) (count : ℕ) (D : Describes tabl
           starts : (t : Bool) → b ≡ t → has rows (first-row T) ≡ t
           starts t e = ap (has rows) (sym initial-row) ∙ sym found ∙ e
 
-          pub refused-16 : b ≡ false → Permits (judged T (rows-checked T list)) (refused 16 0)
-          unfolding rows-checked carry require
+          pub refused-16 : b ≡ false → refused 16 0 ≡ answer
+          unfolding list-checked carry require
           refused-16 h = rw (ready .read, pass-14 (ready .rest), pass-15 (ready .rest), starts false h) refl
 
           -- 17
-          module _ (there : b ≡ true) where
-            concludes : judged T (rows-checked T list) ≡ concluded (length rows) (lacking T rows 1 rows)
-            unfolding rows-checked carry require
-            concludes = rw (ready .read, pass-14 (ready .rest), pass-15 (ready .rest), starts true there) refl
+          module _ (there : b ≡ true) (first : ℕ) (F : FirstOpen (Inside (next-rows T) (head .clocks .count) list count) 0 count first) where
+            left : answer ≡ answered length (carry (none-open T rows 1 rows (ready .rest)) (λ _. done rows))
+            unfolding list-checked carry require
+            left = rw (ready .read, pass-14 (ready .rest), pass-15 (ready .rest), starts true there) refl
 
-            refused-17 : (place : ℕ) → Mem place (lacking T rows 1 rows) → Permits (judged T (rows-checked T list)) (refused 17 place)
-            refused-17 place m = rw concludes (permits-place (length rows) (lacking T rows 1 rows) place m)
+            pub refused-17 : first < count → refused 17 (first + 1) ≡ answer
+            unfolding carry
+            refused-17 l = rw (left, open-refused T (head .clocks .count) list count first F l (ready .rest)) refl
 
-            -- waiting by the clocks' bounds is waiting in the table
-            waits-at : (r : Row) → wait-rows (bounds-of (head .clocks)) r ≡ time-successors T r
-            waits-at r = rw (D .bounds) (sym (time-successors-are T r))
-
-            waits : wait-rows (bounds-of (head .clocks)) ≡ time-successors T
-            waits i r = waits-at r i
-
-            pub refused-waiting : (place : ℕ) → (place ≡ 0 → ⊥) → NextListed (wait-rows (bounds-of (head .clocks))) rows place → Permits (judged T (rows-checked T list)) (refused 17 place)
-            refused-waiting place h l =
-                refused-17 place (lacks-one T rows (time-successors T) (λ r x m. next-rows-parts T r x .1 (inl m)) place h (rw waits at l))
-
-            pub refused-leading : (place : ℕ) → (place ≡ 0 → ⊥) → NextListed (by-edges T) rows place → Permits (judged T (rows-checked T list)) (refused 17 place)
-            refused-leading place h l = refused-17 place (lacks-one T rows (by-edges T) (λ r x m. next-rows-parts T r x .1 (inr m)) place h l)
-
-            pub all-pass : (p q : ℕ) → p ≡ 0 → q ≡ 0 → NextListed (wait-rows (bounds-of (head .clocks))) rows p → NextListed (by-edges T) rows q
-                → Permits (judged T (rows-checked T list)) (accepted count)
-            all-pass p q y z u v =
-                let nothing : lacking T rows 1 rows ≡ [] = lacks-none T rows (rw (waits, y) at u) (rw z at v) in
-                rw (concludes, nothing) (ap accepted (sym (listed-length (head .clocks .count) list count)))
+            pub all-pass : count ≤ first → accepted count ≡ answer
+            unfolding carry
+            all-pass l = rw (left, open-passed T (head .clocks .count) list count first F l (ready .rest)) (ap accepted (sym (listed-length (head .clocks .count) list count)))

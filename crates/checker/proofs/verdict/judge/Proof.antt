@@ -1,6 +1,6 @@
-use Rattle.checker.proofs.Laws.Verdict.{run-told, list-told}
+use Rattle.checker.proofs.Laws.Verdict.{told}
 use Rattle.calls.specs.Program.{printed}
-use Rattle.tables.specs.Values.{answer-of}
+use mathlib.Core.Bool.{true, false}
 use mathlib.Core.Path.{sym, ap, _∙_}
 use borrow.Author.Needs.{needs}
 use Rattle.checker.proofs.verdict.judge.Statement.{statement}
@@ -16,7 +16,7 @@ reached-requires : tie.Need-reached-requires
 reached-requires c κs = search needs
 
 returns : tie.Need-returns
-returns c = run-told _ _ _ (sym (c .before .before .before .is-run .ensures) ∙ c .before .before .if1 .taken) (c .reached .ensures ∙ ap (printed "REACHED") (c .before .check-run .ensures .0))
+returns c = told _ _ _ true (sym (c .before .before .before .is-run .ensures) ∙ c .before .before .if1 .taken) (c .reached .ensures ∙ ap (printed "REACHED") (c .before .check-run .ensures .0))
 
 check-regions-requires : tie.Need-check-regions-requires
 check-regions-requires c κs = search needs
@@ -25,7 +25,7 @@ empty-requires : tie.Need-empty-requires
 empty-requires c κs = search needs
 
 returns-2 : tie.Need-returns-2
-returns-2 c = list-told _ _ _ (sym (c .before .before .before .is-run .ensures) ∙ c .before .before .if1 .left) (answer-of (c .before .check-regions .result)) (c .before .check-regions .ensures .0) (c .empty .ensures)
+returns-2 c = told _ _ _ false (sym (c .before .before .before .is-run .ensures) ∙ c .before .before .if1 .left) (c .empty .ensures ∙ ap (printed "EMPTY") (c .before .check-regions .ensures .0))
 
 pub judge-spec : {M : Type 1} → statement M
 judge-spec =

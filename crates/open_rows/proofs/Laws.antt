@@ -1,0 +1,9 @@
+-- The laws of the search for the first open row, as the code goes.
+pub mod Open
+pub mod Waiting
+pub mod Sole
+pub mod Known
+pub mod Turning
+pub mod Alike
+pub mod Sides
+pub mod Leading

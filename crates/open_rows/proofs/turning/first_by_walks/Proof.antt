@@ -1,0 +1,76 @@
+use Rattle.open_rows.proofs.Laws.Open.{Halving, halving-begins, halving-fails, halving-passes, halving-ends}
+use Prim.Native.Nat.{_-_}
+use native.Mathlib.Omega.{arith}
+use denote.Ref.{now}
+use Rattle.open_rows.specs.Open.{Inside}
+use Rattle.automata.specs.Successors.{edge-rows}
+use Rattle.regions.specs.Values.{bounds-of, edge-of}
+use borrow.Author.Needs.{needs}
+use Rattle.open_rows.proofs.turning.first_by_walks.Statement.{statement}
+use Rattle.open_rows.proofs.turning.first_by_walks.Tie as tie
+use Rattle.open_rows.proofs.turning.first_by_walks.Reads as reads
+use Rattle.open_rows.proofs.turning.first_by_walks.Lts as lts
+use Rattle.open_rows.proofs.turning.open_by_walks.Reads as open-by-walks-reads
+
+abbrev Inv-loop : tie.InvT-loop
+Inv-loop list clocks count e into start end low₀ first₀ top₀ low first top = Halving (Inside (edge-rows (bounds-of clocks) (edge-of (clocks .count) e)) (clocks .count) list count) start end low first top
+
+abbrev μ-loop : tie.MeasureT-loop
+μ-loop list clocks count e into start end low₀ first₀ top₀ low first top = first - low
+
+-- src/turning.rt:117:5
+loop-holds : tie.Need-loop-holds Inv-loop μ-loop
+loop-holds c = let a = c .before .args in let p = c .before .pre in let n = a .clocks .count in let e = edge-of n (a .e) in let cs = bounds-of (a .clocks) in let list = now (a .list) in halving-begins (Inside (edge-rows cs e) n list (a .count)) (a .start) (a .end) (p .1 .1 .from)
+
+-- src/turning.rt:118:13
+open-by-walks-requires : tie.Need-open-by-walks-requires Inv-loop μ-loop
+open-by-walks-requires c κs = let a = c .before .before .before .args in let p = c .before .before .before .pre in let n = a .clocks .count in let e = edge-of n (a .e) in let cs = bounds-of (a .clocks) in let list = now (a .list) in let v = c .before .loop .inv in let l = p .1 .1 in (p .0, (p .1 .0, record { from = v .low-top; within = omega (arith, v .top-first, v .to, l .within); all = λ i h g. l .all i (omega (arith, v .from)) (omega (arith, v .top-first, v .to)) }))
+
+-- src/turning.rt:121:26
+sub-top : tie.Need-sub-top Inv-loop μ-loop
+sub-top c = search needs
+
+-- src/turning.rt:121:26
+add-top : tie.Need-add-top Inv-loop μ-loop
+add-top c = search needs
+
+-- src/turning.rt:121:19
+add-top-2 : tie.Need-add-top-2 Inv-loop μ-loop
+add-top-2 c = search needs
+
+-- src/turning.rt:117:5
+loop-less : tie.Need-loop-less Inv-loop μ-loop
+loop-less c = let v = c .before .before .before .loop .inv in omega (arith, c .before .before .loop-test .taken, c .if1 .taken, c .before .open-by-walks .ensures .from, v .top-first)
+
+-- src/turning.rt:117:5
+loop-again : tie.Need-loop-again Inv-loop μ-loop
+loop-again c = let a = c .before .before .before .before .before .args in let p = c .before .before .before .before .before .pre in let n = a .clocks .count in let e = edge-of n (a .e) in let cs = bounds-of (a .clocks) in let list = now (a .list) in let v = c .before .before .before .loop .inv in let s = c .before .open-by-walks .ensures in halving-fails (Inside (edge-rows cs e) n list (a .count)) (a .start) (a .end) _ _ _ v _ s (c .if1 .taken) _ (omega arith) (omega (arith, s .from)) (λ l. omega (arith, l))
+
+-- src/turning.rt:117:5
+loop-less-2 : tie.Need-loop-less-2 Inv-loop μ-loop
+loop-less-2 c = let v = c .before .before .before .loop .inv in omega (arith, c .before .before .loop-test .taken, v .some (c .before .before .loop-test .taken), v .top-first)
+
+-- src/turning.rt:117:5
+loop-again-2 : tie.Need-loop-again-2 Inv-loop μ-loop
+loop-again-2 c = let a = c .before .before .before .before .before .args in let p = c .before .before .before .before .before .pre in let n = a .clocks .count in let e = edge-of n (a .e) in let cs = bounds-of (a .clocks) in let list = now (a .list) in let v = c .before .before .before .loop .inv in halving-passes (Inside (edge-rows cs e) n list (a .count)) (a .start) (a .end) _ _ _ v _ (c .before .open-by-walks .ensures) (c .if1 .left)
+
+-- src/turning.rt:100:1
+returns : tie.Need-returns Inv-loop μ-loop
+returns c = let a = c .before .before .before .args in let p = c .before .before .before .pre in let n = a .clocks .count in let e = edge-of n (a .e) in let cs = bounds-of (a .clocks) in let list = now (a .list) in halving-ends (Inside (edge-rows cs e) n list (a .count)) (a .start) (a .end) _ _ _ (c .before .loop .inv) (c .loop-test .left)
+
+pub first-by-walks-spec : {M : Type 1} → statement M
+first-by-walks-spec =
+    tie.close
+    (tie.spec
+    Inv-loop
+    μ-loop
+    loop-holds
+    open-by-walks-requires
+    sub-top
+    add-top
+    add-top-2
+    loop-less
+    loop-again
+    loop-less-2
+    loop-again-2
+    returns)
