@@ -50,15 +50,15 @@ impl Files<'_> {
     }
 
     /// The agreed answer, or the report.
-    fn judge(&self, lent: &Lent, packed: u32, is_permitted: bool, rules: Rules) -> Compared {
+    fn judge(&self, lent: &Lent, packed: u32, rules: Answer) -> Compared {
         self.intact(lent)?;
-        if !is_permitted {
+        if packed != rules.packed() {
             let answer = Answer::unpacked(packed);
             return Err(format!(
-                "{self}: the checker answers {answer:?} ({packed:#x}), the rules {rules}"
+                "{self}: the checker answers {answer:?} ({packed:#x}), the rules {rules:?}"
             ));
         }
-        Ok(self.met(Answer::unpacked(packed)))
+        Ok(self.met(rules))
     }
 
     fn intact(&self, lent: &Lent) -> Result<(), String> {
@@ -81,9 +81,6 @@ impl Files<'_> {
     }
 }
 
-/// The answer of the rules for a report.
-type Rules<'text> = fmt::Arguments<'text>;
-
 /// Longer files are shown in part.
 const SHOWN: usize = 1 << 16;
 
@@ -102,9 +99,7 @@ pub fn admit(table: &[u8]) -> Compared {
     let files = Files { table, second: &[] };
     let mut lent = files.lend();
     let packed = library::admit(&mut lent.table);
-    let rules = crate::admit(table);
-    let is_permitted = rules.packed() == packed;
-    files.judge(&lent, packed, is_permitted, format_args!("{rules:?}"))
+    files.judge(&lent, packed, crate::admit(table))
 }
 
 /// The check of a run list on both sides.
@@ -113,21 +108,16 @@ pub fn run(table: &[u8], list: &[u8]) -> Compared {
     let files = Files { table, second };
     let mut lent = files.lend();
     let packed = library::check_run(&mut lent.table, &mut lent.second);
-    let rules = check_run(table, list);
-    let is_permitted = rules.packed() == packed;
-    files.judge(&lent, packed, is_permitted, format_args!("{rules:?}"))
+    files.judge(&lent, packed, check_run(table, list))
 }
 
-/// The check of a region list on both sides. Refusal 17 may name any row that
-/// the rules find at fault.
+/// The check of a region list on both sides.
 pub fn regions(table: &[u8], list: &[u8]) -> Compared {
     let second = list;
     let files = Files { table, second };
     let mut lent = files.lend();
     let packed = library::check_regions(&mut lent.table, &mut lent.second);
-    let rules = check_regions(table, list);
-    let is_permitted = rules.permits(packed);
-    files.judge(&lent, packed, is_permitted, format_args!("{rules:?}"))
+    files.judge(&lent, packed, check_regions(table, list))
 }
 
 /// Bytes before and behind a lent buffer.

@@ -36,5 +36,5 @@ pub use answer::{Answer, Refusal};
 pub use automaton::Automaton;
 pub use follow::follow;
 pub use region::Region;
-pub use region_list::{check_regions, ListAnswer};
+pub use region_list::check_regions;
 pub use run::check_run;

@@ -9,51 +9,19 @@ use crate::successor::NextRows;
 
 pub const GREATEST_ROWS: u16 = 4_096;
 
-/// The answer to a region list. Refusal 17 may name any row that lacks a next
-/// row, so it carries all their places.
-#[derive(Clone, Debug, PartialEq, Eq)]
-pub enum ListAnswer {
-    Sole(Answer),
-    Lacking { places: Vec<u16> },
-}
-
-impl ListAnswer {
-    /// Whether a packed answer is one of those the rules leave open.
-    pub fn permits(&self, packed: u32) -> bool {
-        match self {
-            ListAnswer::Sole(answer) => answer.packed() == packed,
-            ListAnswer::Lacking { places } => places
-                .iter()
-                .any(|place| lacking_at(*place).packed() == packed),
-        }
-    }
-
-    /// One permitted answer: for 17 that of the least place.
-    pub fn least(&self) -> Answer {
-        match self {
-            ListAnswer::Sole(answer) => *answer,
-            ListAnswer::Lacking { places } => lacking_at(places[0]),
-        }
-    }
-}
-
-fn lacking_at(place: u16) -> Answer {
-    Refusal::new(number::NEXT_ROW_MISSING, place).into()
-}
-
 /// Checks a region list against a table: refusals 1 to 9 and 14 to 17. The
 /// count is that of the rows.
-pub fn check_regions(table: &[u8], list: &[u8]) -> ListAnswer {
-    match listed_rows(table, list) {
-        Err(refusal) => ListAnswer::Sole(refusal.into()),
-        Ok((automaton, rows)) => {
-            let places = lacking_places(&automaton, &rows);
-            if places.is_empty() {
-                ListAnswer::Sole(Answer::Accepted(rows.len() as u32))
-            } else {
-                ListAnswer::Lacking { places }
-            }
-        }
+pub fn check_regions(table: &[u8], list: &[u8]) -> Answer {
+    closed_rows(table, list).into()
+}
+
+/// The number of rows of a closed list. Refusal 17 is at the first row that lacks a next row.
+fn closed_rows(table: &[u8], list: &[u8]) -> Result<u32, Refusal> {
+    let (automaton, rows) = listed_rows(table, list)?;
+    let first = lacking_places(&automaton, &rows).next();
+    match first {
+        Some(place) => Err(Refusal::new(number::NEXT_ROW_MISSING, place)),
+        None => Ok(rows.len() as u32),
     }
 }
 
@@ -75,17 +43,18 @@ fn listed_rows(table: &[u8], list: &[u8]) -> Result<(Automaton, Vec<Region>), Re
     Ok((automaton, rows))
 }
 
-/// The places of the rows that lack a wait row or an edge row. The rows ascend.
-pub fn lacking_places(automaton: &Automaton, rows: &[Region]) -> Vec<u16> {
+/// The places of the rows that lack a wait row or an edge row. The rows ascend, and each is looked
+/// at only when it is asked for, so that whoever asks for the first place alone goes no further.
+pub fn lacking_places<'list>(
+    automaton: &'list Automaton,
+    rows: &'list [Region],
+) -> impl Iterator<Item = u16> + 'list {
     let leaving = automaton.leaving();
-    (1..)
-        .zip(rows)
-        .filter(|(_, row)| {
-            let edges = &leaving[usize::from(row.location())];
-            lacks_next(automaton, edges, rows, **row)
-        })
-        .map(|(place, _)| place)
-        .collect()
+    let places = (1..).zip(rows).filter(move |(_, row)| {
+        let edges = &leaving[usize::from(row.location())];
+        lacks_next(automaton, edges, rows, **row)
+    });
+    places.map(|(place, _)| place)
 }
 
 fn lacks_next(automaton: &Automaton, edges: &[usize], rows: &[Region], row: Region) -> bool {

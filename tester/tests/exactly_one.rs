@@ -8,7 +8,7 @@ use tzelmaruf_tester::explore::{closure, closure_from, Closure};
 use tzelmaruf_tester::format::encode_table;
 use tzelmaruf_tester::generate::{lists, rows, seed, Random};
 use tzelmaruf_tester::region::{all_rows, region_of, Region};
-use tzelmaruf_tester::region_list::{encode_regions, ListAnswer};
+use tzelmaruf_tester::region_list::{encode_regions, lacking_places};
 use tzelmaruf_tester::run::{encode_run, Run};
 use tzelmaruf_tester::{check_regions, check_run, Automaton};
 
@@ -49,7 +49,7 @@ impl Subject {
         }
     }
 
-    fn check_rows(&self, rows: &[Region]) -> ListAnswer {
+    fn check_rows(&self, rows: &[Region]) -> Answer {
         check_regions(&self.table, &encode_regions(self.automaton.clocks(), rows))
     }
 }
@@ -112,13 +112,13 @@ fn no_list_is_closed(subject: &Subject) {
     let not_final = |row: &Region| !automaton.is_final(row.location());
     let closure = &subject.closure.rows;
     let first_final = closure.iter().position(|row| !not_final(row)).unwrap();
-    let whole = subject.check_rows(closure).least();
+    let whole = subject.check_rows(closure);
     assert_eq!(whole, refused(15, first_final as u16 + 1), "{case}");
     let mut lists = vec![closure.clone()];
     lists.extend(all_rows(automaton, 2_000));
     for mut list in lists {
         list.retain(not_final);
-        let answer = subject.check_rows(&list).least();
+        let answer = subject.check_rows(&list);
         let initial_is_final = automaton.is_final(automaton.initial);
         match answer {
             Answer::Refused { number: 16, .. } => assert!(initial_is_final, "{case}"),
@@ -133,7 +133,7 @@ fn no_list_is_closed(subject: &Subject) {
 fn has_a_closed_list(random: &mut Random, subject: &Subject, tally: &mut Tally) {
     let rows = subject.closure.closed_list().unwrap();
     let answer = subject.check_rows(rows);
-    let expected = ListAnswer::Sole(Answer::Accepted(rows.len() as u32));
+    let expected = Answer::Accepted(rows.len() as u32);
     assert_eq!(answer, expected, "{}", subject.case);
     tally.closed_lists += 1;
     no_row_can_be_spared(random, subject, rows, tally);
@@ -162,7 +162,7 @@ fn no_row_can_be_spared(
         let mut list = rows.to_vec();
         let removed = list.remove(spared);
         let number = if removed == initial { 16 } else { 17 };
-        let answer = subject.check_rows(&list).least();
+        let answer = subject.check_rows(&list);
         let refused = matches!(answer, Answer::Refused { number: n, .. } if n == number);
         assert!(refused, "{} without {removed:?}: {answer:?}", subject.case);
         tally.shortened_lists += 1;
@@ -176,7 +176,7 @@ fn extend_list(random: &mut Random, subject: &Subject, rows: &[Region], tally: &
     if extended.is_capped {
         return;
     }
-    let answer = subject.check_rows(&extended.rows).least();
+    let answer = subject.check_rows(&extended.rows);
     let expected = match extended.closed_list() {
         Some(list) => Answer::Accepted(list.len() as u32),
         None => {
@@ -228,7 +228,8 @@ fn points_of_run(automaton: &Automaton, run: &Run) -> Vec<(u8, Vec<i64>)> {
     points
 }
 
-/// The places of refusal 17 are exactly the rows whose next row was taken out.
+/// The rows that lack a next row are exactly those that lead to the one that was taken out, and
+/// refusal 17 is at the first of them.
 #[test]
 fn places_of_a_missing_row() {
     let seed = seed(20_402);
@@ -249,9 +250,14 @@ fn places_of_a_missing_row() {
             .filter(|(_, row)| leads_to(&subject.automaton, **row, removed))
             .map(|(place, _)| place)
             .collect();
-        let answer = subject.check_rows(&list);
+        let places: Vec<u16> = lacking_places(&subject.automaton, &list).collect();
         let case = format!("{} without {removed:?}", subject.case);
-        assert_eq!(answer, ListAnswer::Lacking { places: expected }, "{case}");
+        assert_eq!(places, expected, "{case}");
+        assert_eq!(
+            subject.check_rows(&list),
+            refused(17, expected[0]),
+            "{case}"
+        );
         tried += 1;
     }
     assert!(tried > 300, "seed {seed}: only {tried}");

@@ -101,8 +101,7 @@ fn regions_cases() {
         let mut random = Random::of_case(seed, case);
         let pair = regions_case(&mut random, LARGE_ONCE_IN);
         let answer = check_regions(&pair.table, &pair.list);
-        assert!(answer.permits(answer.least().packed()));
-        tally.count(answer.least());
+        tally.count(answer);
         let Ok(automaton) = parse_table(&pair.table) else {
             continue;
         };

@@ -138,7 +138,7 @@ impl Verdict {
             }
         };
         assert_eq!(met.number, 0, "{case}");
-        assert_eq!(verdict::lines(&table, &paper), [line], "{case}");
+        assert_eq!(verdict::line(&table, &paper), line, "{case}");
         Verdict {
             automaton,
             table,

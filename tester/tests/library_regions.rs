@@ -5,7 +5,7 @@ use common::*;
 
 use std::collections::BTreeSet;
 use std::fmt;
-use tzelmaruf_tester::automaton::{Automaton, Comparison, Update};
+use tzelmaruf_tester::automaton::{Comparison, Update};
 use tzelmaruf_tester::compare::Comparer;
 use tzelmaruf_tester::explore::{closure, closure_from};
 use tzelmaruf_tester::format::{encode_table, table_records};
@@ -38,45 +38,6 @@ fn random_lists() {
     comparer.finish_with_positions(OF_REGIONS, &[1, 3, 5, 6, 7, 8, 14, 15, 17]);
 }
 
-/// An automaton and rows that are a closed list for it.
-struct Closed {
-    automaton: Automaton,
-    table: Vec<u8>,
-    rows: Vec<Region>,
-}
-
-impl Closed {
-    fn new(automaton: Automaton, rows: Vec<Region>) -> Closed {
-        let table = encode_table(&automaton);
-        Closed {
-            automaton,
-            table,
-            rows,
-        }
-    }
-
-    /// A random automaton whose closure is closed, of at most `cap` rows.
-    fn random(random: &mut Random, cap: usize) -> Closed {
-        loop {
-            let automaton = far_automaton(random);
-            let closure = closure(&automaton, cap);
-            if let Some(rows) = closure.closed_list() {
-                let rows = rows.to_vec();
-                return Closed::new(automaton, rows);
-            }
-        }
-    }
-
-    fn list(&self, rows: &[Region]) -> Vec<u8> {
-        encode_regions(self.automaton.clocks(), rows)
-    }
-
-    fn accepted(&self, comparer: &mut Comparer, case: fmt::Arguments, rows: &[Region]) {
-        let met = comparer.regions(case, &self.table, &self.list(rows));
-        assert_eq!((met.number, met.place), (0, rows.len() as u32), "{case}");
-    }
-}
-
 /// Each row left out, there twice, exchanged with the next, and put in the
 /// place of the one before.
 fn spoil_rows(comparer: &mut Comparer, case: fmt::Arguments, closed: &Closed) {
@@ -88,13 +49,8 @@ fn spoil_rows(comparer: &mut Comparer, case: fmt::Arguments, closed: &Closed) {
             assert!(due.contains(&met.number), "{case}: {met:?}");
         };
         let row = closed.rows[index];
-        let mut without = closed.rows.clone();
-        without.remove(index);
-        see(
-            "left out",
-            &[if row == initial { 16 } else { 0 }, 17],
-            &without,
-        );
+        let due = [if row == initial { 16 } else { 0 }, 17];
+        see("left out", &due, &closed.without(index));
         let mut twice = closed.rows.clone();
         twice.insert(index, row);
         see("twice", &[14], &twice);
@@ -269,10 +225,8 @@ fn longest_lists() {
     see("one byte short", &whole[..whole.len() - 1], 7, 4_096);
     see("one byte more", &[&whole[..], b"R"].concat(), 9, 4_097);
     for index in (1..4_096).step_by(61).chain([4_095]) {
-        let mut without = closed.rows.clone();
-        without.remove(index);
-        let list = closed.list(&without);
-        comparer.regions(format_args!("without {index}"), &closed.table, &list);
+        let case = format_args!("without {index}");
+        closed.met(&mut comparer, case, &closed.without(index));
         let mut exchanged = closed.rows.clone();
         exchanged.swap(index - 1, index);
         let list = closed.list(&exchanged);
@@ -370,10 +324,8 @@ fn edges_to_nearly_all_rows() {
         let case = format_args!("seed {seed} bounds {bounds:?}");
         closed.accepted(&mut comparer, case, &closed.rows);
         for index in 0..closed.rows.len() {
-            let mut without = closed.rows.clone();
-            without.remove(index);
             let case = format_args!("{case} without {index}");
-            comparer.regions(case, &closed.table, &closed.list(&without));
+            closed.met(&mut comparer, case, &closed.without(index));
         }
     }
     comparer.finish(&[0, 16, 17]);
@@ -416,10 +368,8 @@ fn edges_that_compare_clocks() {
         let case = format_args!("seed {seed} case {number}");
         closed.accepted(&mut comparer, case, &closed.rows);
         for index in 0..closed.rows.len() {
-            let mut without = closed.rows.clone();
-            without.remove(index);
             let case = format_args!("seed {seed} case {number} without {index}");
-            comparer.regions(case, &closed.table, &closed.list(&without));
+            closed.met(&mut comparer, case, &closed.without(index));
         }
     }
     comparer.finish_with_positions(&[0, 16, 17], &[17]);
@@ -584,8 +534,9 @@ fn nothing_behind_the_end_is_read() {
         for length in 0..pair.list.len().min(400) {
             let rules = tzelmaruf_tester::check_regions(&pair.table, &pair.list[..length]);
             let answer = library::check_regions(&mut pair.table, &mut pair.list[..length]);
-            assert!(
-                rules.permits(answer),
+            assert_eq!(
+                answer,
+                rules.packed(),
                 "seed {seed} case {case} cut at {length}: {answer:#x} {rules:?} {} {}",
                 hex(&pair.table),
                 hex(&pair.list)

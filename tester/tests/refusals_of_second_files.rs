@@ -9,7 +9,7 @@ use tzelmaruf_tester::automaton::{Automaton, Update};
 use tzelmaruf_tester::explore::closure;
 use tzelmaruf_tester::format::encode_table;
 use tzelmaruf_tester::region::Region;
-use tzelmaruf_tester::region_list::{encode_regions, region_records, ListAnswer};
+use tzelmaruf_tester::region_list::{encode_regions, region_records};
 use tzelmaruf_tester::run::{encode_run, run_records, Run, Step};
 use tzelmaruf_tester::{check_regions, check_run, follow};
 
@@ -257,15 +257,9 @@ fn closed() -> (Automaton, Vec<Region>) {
     (automaton, rows)
 }
 
-fn regions_answer(list: &[u8]) -> ListAnswer {
-    check_regions(&encode_table(&closed().0), list)
-}
-
 fn assert_regions(list: &[u8], expected: Answer) {
-    let answer = regions_answer(list);
-    assert_eq!(answer, ListAnswer::Sole(expected), "{}", hex(list));
-    assert!(answer.permits(expected.packed()));
-    assert!(!answer.permits(expected.packed() + 1));
+    let answer = check_regions(&encode_table(&closed().0), list);
+    assert_eq!(answer, expected, "{}", hex(list));
 }
 
 fn assert_rows(rows: &[Region], expected: Answer) {
@@ -418,8 +412,7 @@ fn regions_order_of_14_to_17() {
     assert_rows(&[rows[0], final_row], refused(15, 2));
     // 16 before 17.
     assert_rows(&[rows[2]], refused(16, 0));
-    let lacking = regions_answer(&encode_regions(2, &rows[..1]));
-    assert_eq!(lacking, ListAnswer::Lacking { places: vec![1] });
+    assert_rows(&rows[..1], refused(17, 1));
 }
 
 #[test]
@@ -433,11 +426,14 @@ fn regions_17_at_each_place() {
         let mut list = rows.clone();
         list.remove(missing);
         let answer = check_regions(&table, &encode_regions(1, &list));
-        let places = vec![missing as u16];
-        assert_eq!(answer, ListAnswer::Lacking { places });
-        assert!(answer.permits(17 << 16 | missing as u32));
-        assert!(!answer.permits(17 << 16 | (missing as u32 + 1)));
-        assert!(!answer.permits(16 << 16) && !answer.permits(5));
+        assert_eq!(answer, refused(17, missing as u16));
+        // The least place of two.
+        for other in missing + 1..6 {
+            let mut shorter = rows.clone();
+            shorter.retain(|row| ![rows[missing], rows[other]].contains(row));
+            let answer = check_regions(&table, &encode_regions(1, &shorter));
+            assert_eq!(answer, refused(17, missing as u16));
+        }
     }
 }
 

@@ -7,15 +7,17 @@ use common::{
 };
 
 use tzelmaruf_tester::answer::Answer;
-use tzelmaruf_tester::automaton::{Update, GREATEST_CLOCKS, GREATEST_EDGES};
+use tzelmaruf_tester::automaton::{Automaton, Edge, Update, GREATEST_CLOCKS, GREATEST_EDGES};
 use tzelmaruf_tester::format::encode_table;
 use tzelmaruf_tester::generate::{seed, Random};
 use tzelmaruf_tester::region::{all_rows, is_row, Region};
-use tzelmaruf_tester::region_list::GREATEST_ROWS;
+use tzelmaruf_tester::region_list::{lacking_places, GREATEST_ROWS};
 use tzelmaruf_tester::slow::arguments::USAGE;
+use tzelmaruf_tester::slow::falling::falling_guards;
 use tzelmaruf_tester::slow::rows::{count_rows, rows_of};
+use tzelmaruf_tester::slow::timed::refused::refused_lists;
 use tzelmaruf_tester::slow::timed::timed_lists;
-use tzelmaruf_tester::slow::{Arguments, Candidate, Judge, Search, Share};
+use tzelmaruf_tester::slow::{Arguments, Candidate, Judge, OpenList, Search, Share};
 use tzelmaruf_tester::{admit, words};
 
 fn parse(line: &str) -> Result<Arguments, String> {
@@ -26,8 +28,9 @@ fn parse(line: &str) -> Result<Arguments, String> {
 #[test]
 fn arguments_are_read() {
     assert_eq!(Arguments::parse(&[]), Ok(Arguments::default()));
-    let given = parse("--edges 7 --folder some/where --seconds 5 --seed 9");
+    let given = parse("--edges 7 --folder some/where --refused --seconds 5 --seed 9");
     let expected = Arguments {
+        refused: true,
         seed: 9,
         seconds: 5,
         edges: 7,
@@ -35,7 +38,7 @@ fn arguments_are_read() {
     };
     assert_eq!(given, Ok(expected));
     assert!(parse("--edges 1 --seconds 1 --seed 0").is_ok());
-    assert!(parse("--edges 256").is_ok());
+    assert!(parse("--edges 256").is_ok_and(|given| !given.refused));
 }
 
 #[test]
@@ -66,6 +69,8 @@ fn wrong_arguments_are_named() {
         ("--seed 18446744073709551616", "--seed"),
         ("--folder ", "--folder"),
         ("--seed 1 --seed 2", "twice"),
+        ("--refused --refused", "twice"),
+        ("--refused yes", "'yes'"),
         ("--sead 1", "--sead"),
         ("7", "'7'"),
     ] {
@@ -109,13 +114,80 @@ fn candidates_stay_lawful() {
     println!("seed {seed}");
     for case in 0..60 {
         let random = &mut Random::of_case(seed, case);
-        let mut candidate = Candidate::random(random);
+        let mut candidate = match case % 3 {
+            0 => Candidate::random_open(random),
+            _ => Candidate::random(random),
+        };
         hold_lawful(&candidate);
         for _ in 0..30 {
             candidate = candidate.changed(random);
             hold_lawful(&candidate);
         }
     }
+}
+
+/// What is left of a list is some of its rows, the initial one among them, always the same, and not
+/// always all; the table with falling guards is admitted and closed by the same list.
+#[test]
+fn open_candidates_lack_rows() {
+    let seed = seed(30_715);
+    println!("seed {seed}");
+    let (mut all, mut fewer) = (0, 0);
+    for case in 0..60 {
+        let random = &mut Random::of_case(seed, case);
+        let candidate = Candidate::random_open(random).changed(random);
+        let Some(closed) = candidate.closed_list().filter(|rows| rows.len() < 500) else {
+            continue;
+        };
+        let lists = candidate
+            .open_list(closed.clone(), 12)
+            .expect("it has gaps");
+        let records = lists.automaton.records() as u32;
+        let table = encode_table(&lists.automaton);
+        assert_eq!(admit(&table), Answer::Accepted(records), "{candidate}");
+        assert_eq!(lacking_places(&lists.automaton, &closed).next(), None);
+        assert!(lists.open.contains(&Region::initial(&lists.automaton)));
+        assert!(lists.open.iter().all(|row| closed.contains(row)));
+        let again = candidate.open_list(closed.clone(), 12).expect("as before");
+        assert_eq!(again.open, lists.open);
+        match lists.open.len() == closed.len() {
+            true => all += 1,
+            false => fewer += 1,
+        }
+    }
+    println!("{fewer} lists lack rows, {all} lack none");
+    assert!(fewer > 10 && fewer > all);
+    assert!(Candidate::random(&mut Random::new(seed)).gaps.is_none());
+}
+
+/// From the tops down to nothing, in the order of the rows.
+#[test]
+fn guards_fall() {
+    let over = |clock, constant| guard(clock, Greater, constant);
+    let least = |clock, constant| guard(clock, AtLeast, constant);
+    let one_clock = falling_guards(&[1], &[0], 4);
+    let expected = [
+        vec![over(0, 1)],
+        vec![least(0, 1)],
+        vec![over(0, 0)],
+        vec![],
+    ];
+    assert_eq!(one_clock, expected);
+    // Intervals 2 and 1 of the first clock, of the last one 1 and 0, and the clock between them left out.
+    let two_clocks = falling_guards(&[1, 9, 0], &[0, 2], 8);
+    assert_eq!(
+        two_clocks[2..4],
+        [vec![over(2, 0), least(0, 1)], vec![least(0, 1)]]
+    );
+    assert_eq!(
+        two_clocks[4..6],
+        [vec![over(2, 0), over(0, 0)], vec![over(0, 0)]]
+    );
+    // With more edges than intervals some are alike, with one there is nothing to fall to.
+    let many = falling_guards(&[0], &[0], 5);
+    assert_eq!(many[0], [over(0, 0)]);
+    assert_eq!(many[4], []);
+    assert_eq!(falling_guards(&[3], &[0], 1), [vec![over(0, 3)]]);
 }
 
 /// Every kind of list, update and comparison is tried, with any number of clocks and locations.
@@ -209,7 +281,7 @@ impl Judge for Counting {
 /// The best scores that a search goes through, and what it finds in the end.
 fn climbed(seed: u64, candidates: u64) -> (Vec<f64>, Candidate) {
     let mut judge = Counting { left: candidates };
-    let mut search = Search::new(&mut judge, seed);
+    let mut search = Search::new(&mut judge, Candidate::random, seed);
     let mut scores = Vec::new();
     search.run(&mut |search, is_best| {
         let best = search.best.as_ref().map(|found| found.score);
@@ -247,6 +319,79 @@ fn timed_lists_are_fixed() {
     assert_eq!(length("F1"), 3_955);
     assert_eq!(length("A"), 4_046);
     assert_eq!(length("mixed edges"), 2_414);
+}
+
+/// The table with these edges alone.
+fn with_edges(lists: &OpenList, edges: &[&Edge]) -> Automaton {
+    Automaton {
+        edges: edges.iter().map(|edge| (*edge).clone()).collect(),
+        ..lists.automaton.clone()
+    }
+}
+
+/// The first row that lacks a next row by waiting or by one edge.
+fn first_open_by(lists: &OpenList, edge: &Edge) -> Option<u16> {
+    let automaton = with_edges(lists, &[edge]);
+    let mut places = lacking_places(&automaton, &lists.open);
+    places.next()
+}
+
+/// Of the edges that are looked at each lowers the place, from near the end of the list on and by a few
+/// rows for each edge.
+fn opens_earlier_by_each(name: &str, lists: &OpenList) {
+    const STEP: usize = 15;
+    let last = lists.open.len() as u16;
+    let places = lists.automaton.edges.iter().step_by(STEP);
+    let places: Vec<u16> = places
+        .map(|edge| first_open_by(lists, edge).expect(name))
+        .collect();
+    assert!(last - places[0] < 100, "{name}: {places:?}");
+    for pair in places.windows(2) {
+        let lowered = i32::from(pair[0]) - i32::from(pair[1]);
+        assert!(
+            (1..20 * STEP as i32).contains(&lowered),
+            "{name}: {places:?}"
+        );
+    }
+}
+
+/// The refused lists have 256 edges and thousands of rows, and lack rows that only edges lead to.
+#[test]
+fn refused_lists_are_open_by_edges_alone() {
+    for timed in refused_lists() {
+        let lists = timed.lists();
+        let table = encode_table(&lists.automaton);
+        let records = lists.automaton.records() as u32;
+        assert_eq!(admit(&table), Answer::Accepted(records), "{}", timed.name);
+        assert_eq!(lists.automaton.edges.len(), GREATEST_EDGES);
+        assert!((2_000..=usize::from(GREATEST_ROWS)).contains(&lists.closed.len()));
+        assert!(lists.open.len() < lists.closed.len());
+        let without_edges = with_edges(&lists, &[]);
+        let waiting = lacking_places(&without_edges, &lists.open).next();
+        assert_eq!(waiting, None, "{}", timed.name);
+    }
+}
+
+/// By which edges the rows are open, as the names say.
+#[test]
+fn refused_lists_are_as_named() {
+    for timed in refused_lists() {
+        let (name, lists) = (timed.name, timed.lists());
+        let edges = &lists.automaton.edges;
+        let (last, others) = edges.split_last().expect("256 edges");
+        assert_eq!(first_open_by(&lists, last), Some(timed.place), "{name}");
+        if name.starts_with("last edge open") {
+            assert!(others.iter().all(|edge| *edge == others[0]), "{name}");
+            assert_eq!(first_open_by(&lists, &others[0]), None, "{name}");
+        } else if name.starts_with("most rows open") {
+            assert!(others.iter().all(|edge| edge == last), "{name}");
+            let open = lacking_places(&with_edges(&lists, &[last]), &lists.open).count();
+            assert!(6 * open > 5 * lists.open.len(), "{name}: {open}");
+        } else {
+            assert!(name.starts_with("each edge opens earlier"), "{name}");
+            opens_earlier_by_each(name, &lists);
+        }
+    }
 }
 
 #[test]

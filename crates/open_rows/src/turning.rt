@@ -8,6 +8,7 @@ ghost use Rattle.regions.specs.Values.{bounds-of, edge-of};
 ghost use Rattle.listed_rows.specs.Located.{RowsIn};
 ghost use Rattle.open_rows.specs.Open.{Inside, FirstOpen, SomeOpen};
 ghost use Rattle.open_rows.specs.Leading.{Suited, Stretch, Grouped};
+use crate::tracing::traced;
 use crate::walking::least_chosen;
 use crate::walking::least_held;
 use listed_rows::listed::Span;
@@ -94,9 +95,21 @@ fn open_by_walks(
     end
 }
 
-// The first row from start to before end from which the edge leads out of the list, or end. Where one is found, only the rows before it are left, and rows
-// that it told for are not known: then half of those are taken, and all that are left where the edge leads into the list from that half. So they
-// are at most half as many after every two times.
+// How far to look next, if the edge leads into the list from the rows before low, and out of it from the first found so far: at all rows before that one,
+// or at half of them.
+fn next_top(low: usize, first: usize, halve: bool) -> usize
+    requires { ⌜ (low ≤ first) × (first ≤ 4096) ⌝ }
+    ensures { λ r. ⌜ (low ≤ r) × (r ≤ first) × (low < first → low < r) ⌝ }
+{
+    if halve {
+        return low + (first - low + 1) / 2;
+    }
+    first
+}
+
+// The first row from start to before end from which the edge leads out of the list, or end. Where one is found, the first row is named that lacks the same
+// (`traced`), and only the rows before that are left. Of those that the open row told for nothing is known now: all of them are looked at once
+// more, and where one of these is open too, half of them, and the others where none of that half is. So they are at most half as many after every two times.
 pub fn first_by_walks(
     list: &[u8],
     clocks: Clocks,
@@ -114,11 +127,13 @@ pub fn first_by_walks(
     let mut low = start;
     let mut first = end;
     let mut top = end;
+    let mut again = false;
     while low < first {
         let open = open_by_walks(list, clocks, count, e, into, low, top);
         if open < top {
-            first = open;
-            top = low + (first - low + 1) / 2;
+            first = traced(list, clocks, count, e, into, low, open);
+            top = next_top(low, first, again);
+            again = true;
         } else {
             low = top;
             top = first;

@@ -1,10 +1,11 @@
 //! The checker's time beside that of the rules, on the same input in the same
 //! run: `benchmark [REPETITIONS [PART [WORD..]]]`, to be built for release. The parts
-//! are admission, run, lists and followings; without one it is all of them. Words choose
-//! among the cases of a part: those that have all of them in their name.
+//! are admission, run, lists, followings and refusals; without one it is all of them. Words
+//! choose among the cases of a part: those that have all of them in their name.
 //!
 //! The two sides take turns, and the best processor time of each counts, so that
-//! other work on the machine disturbs the ratio as little as it can.
+//! other work on the machine disturbs the ratio as little as it can. Refused lists take
+//! turns besides with the accepted lists that they were made from.
 
 use std::cell::Cell;
 use std::hint::black_box;
@@ -19,6 +20,7 @@ use tzelmaruf_tester::generate::{tables, Random, Shape};
 use tzelmaruf_tester::region::Region;
 use tzelmaruf_tester::run::{encode_run, Run, Step};
 use tzelmaruf_tester::slow::timed::families::{set, BEFORE_NOT_EQUAL};
+use tzelmaruf_tester::slow::timed::refused::{refused_lists, RefusedList};
 use tzelmaruf_tester::slow::timed::{timed_lists, TimedList};
 use tzelmaruf_tester::slow::Pair;
 use tzelmaruf_tester::{admit, check_run, library};
@@ -40,12 +42,14 @@ struct Plan {
     words: Vec<String>,
     /// How many cases were asked for so far.
     chosen: Cell<u32>,
+    /// How many of them the checker answered otherwise than the rules.
+    wrong: Cell<u32>,
 }
 
 impl Plan {
     /// The effort for a case, if it is asked for.
     fn effort(&self, name: &str, calls: u32) -> Option<Effort> {
-        let is_blank = |letter: char| letter.is_whitespace() || letter == ',';
+        let is_blank = |letter: char| letter.is_whitespace() || ",:".contains(letter);
         let named: Vec<&str> = name.split(is_blank).collect();
         let is_chosen = self.words.iter().all(|word| named.contains(&word.as_str()));
         self.chosen.set(self.chosen.get() + u32::from(is_chosen));
@@ -80,7 +84,7 @@ fn compete(
 }
 
 /// The width of the names, so that all columns stand below each other.
-const WIDTH: usize = 78;
+const WIDTH: usize = 96;
 
 fn print(name: &str, times: &Times) {
     let Times { checker, rules } = times;
@@ -94,27 +98,87 @@ fn time_list(effort: &Effort, timed: &TimedList) {
     let expected = timed.expected(&rows);
     let mut pair = Pair::new(&automaton, &rows);
     let same = pair.clone();
-    const RIGHT: u64 = 1;
     let times = compete(
         effort,
-        RIGHT,
-        &mut || expected.permits(pair.checker()).into(),
-        &mut || (same.rules() == expected).into(),
+        expected.packed().into(),
+        &mut || pair.checker().into(),
+        &mut || same.rules().packed().into(),
     );
-    let text = format!(
-        "{}: {} rows, {} clocks, {} edges",
-        timed.name,
-        rows.len(),
-        automaton.clocks(),
-        automaton.edges.len()
-    );
-    print(&text, &times);
+    print(&described(timed.name, &automaton, rows.len()), &times);
+}
+
+/// A list with its size.
+fn described(name: &str, automaton: &Automaton, rows: usize) -> String {
+    let (clocks, edges) = (automaton.clocks(), automaton.edges.len());
+    format!("{name}: {rows} rows, {clocks} clocks, {edges} edges")
 }
 
 fn time_lists(plan: &Plan) {
     for timed in timed_lists() {
         if let Some(effort) = plan.effort(timed.name, timed.calls) {
             time_list(&effort, &timed);
+        }
+    }
+}
+
+/// Best seconds for a refused list: the checker's, beside those for the closed list that it was made
+/// from, and the rules'.
+struct RefusalTimes {
+    accepted: f64,
+    refused: f64,
+    rules: f64,
+}
+
+/// The refusal of a list beside the acceptance of the one that it was made from, in turn, and beside the
+/// rules. An answer of the checker that is not due is shown, and its time all the same, so that
+/// libraries can be compared that name another row.
+fn time_refusal(plan: &Plan, effort: &Effort, timed: &RefusedList) {
+    let lists = timed.lists();
+    let (mut closed, mut open) = (lists.closed_pair(), lists.open_pair());
+    let same = open.clone();
+    let due = timed.expected();
+    let mut answer = 0;
+    let mut best = RefusalTimes {
+        accepted: f64::INFINITY,
+        refused: f64::INFINITY,
+        rules: f64::INFINITY,
+    };
+    for _ in 0..effort.repetitions {
+        let accepted = seconds(1, lists.closed.len() as u64, &mut || {
+            closed.checker().into()
+        });
+        let refused = mean_seconds(effort.calls, &mut || answer = open.checker());
+        let rules = seconds(1, due.packed().into(), &mut || same.rules().packed().into());
+        best.accepted = best.accepted.min(accepted);
+        best.refused = best.refused.min(refused);
+        best.rules = best.rules.min(rules);
+    }
+    let mut text = described(timed.name, &lists.automaton, lists.open.len());
+    text += &format!(", 17 at {}", timed.place);
+    if answer != due.packed() {
+        plan.wrong.set(plan.wrong.get() + 1);
+        text += &format!(", answered {} at {}", answer >> 16, answer as u16);
+    }
+    print_refusal(&text, &best);
+}
+
+fn print_refusal(name: &str, times: &RefusalTimes) {
+    let RefusalTimes {
+        accepted,
+        refused,
+        rules,
+    } = times;
+    println!(
+        "| {name:<WIDTH$} | {accepted:>11.7} | {refused:>11.7} | {:>6.2} | {rules:>11.7} | {:>8.2} |",
+        refused / accepted,
+        refused / rules
+    );
+}
+
+fn time_refusals(plan: &Plan) {
+    for timed in refused_lists() {
+        if let Some(effort) = plan.effort(timed.name, 1) {
+            time_refusal(plan, &effort, &timed);
         }
     }
 }
@@ -301,15 +365,49 @@ fn time_followings(plan: &Plan) {
     }
 }
 
-/// A name, and what times the cases of the part that are asked for.
-type Part = (&'static str, fn(&Plan));
+/// A part of the benchmark.
+struct Part {
+    name: &'static str,
+    columns: Columns,
+    /// Times those of its cases that are asked for.
+    time: fn(&Plan),
+}
 
-const PARTS: [Part; 4] = [
-    ("admission", time_admission),
-    ("run", time_runs),
-    ("lists", time_lists),
-    ("followings", time_followings),
+/// What stands above the numbers, each with its width.
+type Columns = &'static [(&'static str, usize)];
+
+const OF_SIDES: Columns = &[("checker", 11), ("rules", 11), ("ratio", 6)];
+const OF_REFUSALS: Columns = &[
+    ("accepted", 11),
+    ("refused", 11),
+    ("ratio", 6),
+    ("rules", 11),
+    ("to rules", 8),
 ];
+
+const fn part(name: &'static str, columns: Columns, time: fn(&Plan)) -> Part {
+    Part {
+        name,
+        columns,
+        time,
+    }
+}
+
+const PARTS: [Part; 5] = [
+    part("admission", OF_SIDES, time_admission),
+    part("run", OF_SIDES, time_runs),
+    part("lists", OF_SIDES, time_lists),
+    part("followings", OF_SIDES, time_followings),
+    part("refusals", OF_REFUSALS, time_refusals),
+];
+
+/// The first lines of a table with such columns.
+fn print_head(columns: Columns) {
+    let cell = |(name, width): &(&str, usize)| format!(" {name:>width$} |");
+    let cells: String = columns.iter().map(cell).collect();
+    println!("\n| {:<WIDTH$} |{cells}", "");
+    println!("|---|{}", "---:|".repeat(columns.len()));
+}
 
 const USAGE: &str = "usage: benchmark [REPETITIONS [PART [WORD..]]]";
 
@@ -321,7 +419,7 @@ fn parse(words: &[String]) -> Result<(Plan, Option<&str>), String> {
         Some((text, _)) => return Err(format!("'{text}' is no number of repetitions")),
     };
     let part = words.get(1).map(String::as_str);
-    let names: Vec<&str> = PARTS.iter().map(|(name, _)| *name).collect();
+    let names: Vec<&str> = PARTS.iter().map(|part| part.name).collect();
     match part {
         Some(part) if !names.contains(&part) => {
             Err(format!("no part '{part}'; there are {}", names.join(", ")))
@@ -331,6 +429,7 @@ fn parse(words: &[String]) -> Result<(Plan, Option<&str>), String> {
                 repetitions,
                 words: words.iter().skip(2).cloned().collect(),
                 chosen: Cell::new(0),
+                wrong: Cell::new(0),
             };
             Ok((plan, part))
         }
@@ -339,7 +438,7 @@ fn parse(words: &[String]) -> Result<(Plan, Option<&str>), String> {
 
 fn main() -> ExitCode {
     let given: Vec<String> = std::env::args().skip(1).collect();
-    let (plan, part) = match parse(&given) {
+    let (plan, only) = match parse(&given) {
         Ok(parsed) => parsed,
         Err(wrong) => {
             eprintln!("benchmark: {wrong}\n{USAGE}");
@@ -347,21 +446,25 @@ fn main() -> ExitCode {
         }
     };
     let repetitions = plan.repetitions;
-    println!("best of {repetitions}, seconds of processor time; ratio: checker to rules\n");
-    let head = ["", "checker", "rules", "ratio"];
-    println!(
-        "| {:<WIDTH$} | {:>11} | {:>11} | {:>6} |",
-        head[0], head[1], head[2], head[3]
-    );
-    println!("|---|---:|---:|---:|");
-    for (name, time) in PARTS {
-        if part.is_none_or(|only| only == name) {
-            time(&plan);
+    println!("best of {repetitions}, seconds of processor time; ratio: checker to rules, refused to accepted");
+    let mut columns: Columns = &[];
+    let is_asked_for = |part: &&Part| only.is_none_or(|only| only == part.name);
+    for part in PARTS.iter().filter(is_asked_for) {
+        if part.columns != columns {
+            columns = part.columns;
+            print_head(columns);
         }
+        (part.time)(&plan);
     }
     if plan.chosen.get() == 0 {
         eprintln!("benchmark: no case has all of the words in its name");
         return ExitCode::from(2);
     }
-    ExitCode::SUCCESS
+    match plan.wrong.get() {
+        0 => ExitCode::SUCCESS,
+        wrong => {
+            eprintln!("benchmark: the checker answered {wrong} lists otherwise than the rules");
+            ExitCode::FAILURE
+        }
+    }
 }

@@ -1,23 +1,28 @@
 //! A search for region lists that keep the checker busy:
 //!
-//!     slow_lists [--seed N] [--seconds N] [--edges K] [--folder DIR]
+//!     slow_lists [--refused] [--seed N] [--seconds N] [--edges K] [--folder DIR]
 //!
 //! Lists of tables with one edge are made at random and then changed one thing at a
-//! time; what is slower is gone on from. Only lists that are accepted count. The worst
-//! one is printed at the end, with the time of the rules for the same, and written
-//! with copies of its edge as table.tab and proof.prf.
+//! time; what is slower is gone on from. Only lists that are accepted count, or, with
+//! `--refused`, lists with rows left out that are refused. The worst one is printed at the
+//! end, with the time of the rules for the same, and written with copies of its edge as
+//! table.tab and proof.prf.
 //!
 //! Times are processor seconds. That of an edge is the time of the whole check with this
-//! one edge, less the time of the check of the same list without it.
+//! one edge, less the time of the check of the same list without it. A refused list is
+//! the worse the longer its check takes beside that of the list with all its rows.
 
 use std::path::Path;
 use std::process::ExitCode;
+use tzelmaruf_tester::answer::Answer;
 use tzelmaruf_tester::cpu_time::mean_seconds;
 use tzelmaruf_tester::region::Region;
 use tzelmaruf_tester::slow::arguments::USAGE;
+use tzelmaruf_tester::slow::refusal_score::RefusalWatch;
 use tzelmaruf_tester::slow::score::{checker_score, pair_of, rules_score, Stopwatch};
 use tzelmaruf_tester::slow::search::Found;
-use tzelmaruf_tester::slow::{Arguments, Candidate, Pair, Score, Search};
+use tzelmaruf_tester::slow::{Arguments, Candidate, Judge, OpenList, Pair, RefusalScore};
+use tzelmaruf_tester::slow::{Score, Search};
 
 const FOUND: u8 = 0;
 const FAILED: u8 = 1;
@@ -33,32 +38,45 @@ const TIMED_AGAIN: usize = 5;
 /// The copies are checked as well if that is reckoned to take no more seconds than this.
 const AFFORDABLE: f64 = 60.0;
 
-fn report_progress(search: &Search, edges: usize) {
+fn report_progress(search: &Search, arguments: &Arguments) {
     let best = search.best.as_ref().map_or(0.0, |found| found.score);
-    println!(
-        "{:6.0} s: climb {}, {} lists tried, worst so far {best:.6} s for one edge, {:.3} s times {edges}",
-        Stopwatch::spent(),
-        search.climbs,
-        search.tried,
-        best * edges as f64
-    );
+    let (spent, climbs, tried) = (Stopwatch::spent(), search.climbs, search.tried);
+    let worst = match arguments.refused {
+        true => format!("{best:.2} times as long as accepted"),
+        false => {
+            let edges = arguments.edges;
+            let together = best * edges as f64;
+            format!("{best:.6} s for one edge, {together:.3} s times {edges}")
+        }
+    };
+    println!("{spent:6.0} s: climb {climbs}, {tried} lists tried, worst so far {worst}");
 }
 
 /// The best of all climbs within the time.
 fn search(arguments: &Arguments) -> Vec<Found> {
-    let mut judge = Stopwatch {
-        limit: arguments.seconds as f64,
+    let limit = arguments.seconds as f64;
+    let (mut stopwatch, mut refusals) = (Stopwatch { limit }, RefusalWatch { limit });
+    let judge: &mut dyn Judge = match arguments.refused {
+        true => &mut refusals,
+        false => &mut stopwatch,
     };
-    let mut search = Search::new(&mut judge, arguments.seed);
+    let make = match arguments.refused {
+        true => Candidate::random_open,
+        false => Candidate::random,
+    };
+    let mut search = Search::new(judge, make, arguments.seed);
     let mut reported = 0.0;
     search.run(&mut |search, is_best| {
         if is_best || Stopwatch::spent() >= reported + PROGRESS {
-            report_progress(search, arguments.edges);
+            report_progress(search, arguments);
             reported = Stopwatch::spent();
         }
     });
-    report_progress(&search, arguments.edges);
-    search.summits
+    report_progress(&search, arguments);
+    let mut summits = search.summits;
+    summits.sort_by(|one, other| other.score.total_cmp(&one.score));
+    summits.truncate(TIMED_AGAIN);
+    summits
 }
 
 /// A candidate with its list and the checker's times for it.
@@ -81,9 +99,8 @@ impl Worst {
     }
 
     /// The slowest of the best, timed once more.
-    fn of(mut summits: Vec<Found>) -> Option<Worst> {
-        summits.sort_by(|one, other| other.score.total_cmp(&one.score));
-        let timed = summits.into_iter().take(TIMED_AGAIN).filter_map(Worst::new);
+    fn of(summits: Vec<Found>) -> Option<Worst> {
+        let timed = summits.into_iter().filter_map(Worst::new);
         timed.max_by(|one, other| one.checker.edge.total_cmp(&other.checker.edge))
     }
 
@@ -103,6 +120,60 @@ impl Worst {
         let name = format!("{edges} edges and the rest");
         print_times(&name, copies, rules.of_edges(edges));
         println!("\nThe last line: checker {how}, rules reckoned.");
+    }
+}
+
+/// A candidate with its closed list, what is left of it, and the checker's times for both.
+struct WorstRefusal {
+    candidate: Candidate,
+    lists: OpenList,
+    checker: RefusalScore,
+}
+
+impl WorstRefusal {
+    fn new(found: Found, edges: usize) -> Option<WorstRefusal> {
+        let candidate = found.candidate;
+        let lists = candidate.open_list(candidate.closed_list()?, edges)?;
+        let checker = RefusalScore::of(&lists)?;
+        Some(WorstRefusal {
+            candidate,
+            lists,
+            checker,
+        })
+    }
+
+    /// Of the best that which takes longest beside its closed list, timed once more with all edges.
+    fn of(summits: Vec<Found>, edges: usize) -> Option<WorstRefusal> {
+        let timed = summits.into_iter();
+        let timed = timed.filter_map(|found| WorstRefusal::new(found, edges));
+        timed.max_by(|one, other| one.checker.ratio().total_cmp(&other.checker.ratio()))
+    }
+
+    /// The place has to be the one that the rules find.
+    fn report(&self, pair: &mut Pair) {
+        let WorstRefusal {
+            candidate,
+            lists,
+            checker,
+        } = self;
+        println!("\nthe worst found:\n{candidate}");
+        println!(
+            "{} rows, {} of them left\n",
+            lists.closed.len(),
+            lists.open.len()
+        );
+        let mut due = Answer::Accepted(0);
+        let rules = mean_seconds(1, &mut || due = pair.rules());
+        let RefusalScore { accepted, refused } = checker;
+        println!("| accepted    | refused     |  ratio |       rules |  ratio |");
+        println!("|---:|---:|---:|---:|---:|");
+        println!(
+            "| {accepted:>11.6} | {refused:>11.6} | {:>6.2} | {rules:>11.6} | {:>6.2} |\n",
+            checker.ratio(),
+            refused / rules
+        );
+        println!("The rules: {due:?}.");
+        assert_eq!(Answer::unpacked(pair.checker()), due, "{candidate}");
     }
 }
 
@@ -137,11 +208,20 @@ fn run(arguments: &Arguments) -> Result<(), String> {
         "seed {}, {} seconds of processor time",
         arguments.seed, arguments.seconds
     );
-    let worst = Worst::of(search(arguments)).ok_or("the time was too short for a list")?;
-    let mut pair = pair_of(&worst.candidate, &worst.rows, arguments.edges);
-    write(&arguments.folder, &pair).map_err(cannot)?;
-    worst.report(arguments.edges, &mut pair);
-    println!("Written with {} edges to {folder}.", arguments.edges);
+    let (summits, edges) = (search(arguments), arguments.edges);
+    let none = "the time was too short for a list";
+    if arguments.refused {
+        let worst = WorstRefusal::of(summits, edges).ok_or(none)?;
+        let mut pair = worst.lists.open_pair();
+        write(&arguments.folder, &pair).map_err(cannot)?;
+        worst.report(&mut pair);
+    } else {
+        let worst = Worst::of(summits).ok_or(none)?;
+        let mut pair = pair_of(&worst.candidate, &worst.rows, edges);
+        write(&arguments.folder, &pair).map_err(cannot)?;
+        worst.report(edges, &mut pair);
+    }
+    println!("Written with {edges} edges to {folder}.");
     Ok(())
 }
 

@@ -6,6 +6,7 @@ use crate::automaton::{Automaton, Comparison, Edge, Update};
 use crate::explore::closure_from;
 use crate::region::Region;
 use crate::run::{guards_hold, Run, Step, GREATEST_SCALE};
+use std::collections::HashSet;
 
 /// A run with at most `steps` steps that obeys the rules, and the location it
 /// ends in. It ends early where no edge can be taken.
@@ -177,23 +178,57 @@ pub fn rows_near_closed(random: &mut Random, automaton: &mut Automaton, cap: usi
     rows
 }
 
-/// Spoils a list of rows: one missing, one more, two exchanged, one twice.
+/// What is left of a list if each row but the initial one is left out once in so many times.
+pub fn leave_out(
+    random: &mut Random,
+    automaton: &Automaton,
+    rows: &[Region],
+    once_in: usize,
+) -> Vec<Region> {
+    let initial = Region::initial(automaton);
+    let stays = |row: &&Region| **row == initial || !random.once_in(once_in);
+    rows.iter().filter(stays).copied().collect()
+}
+
+/// The same, but rows that waiting leads to from other rows stay too, so that only edges miss those
+/// that are left out.
+pub fn leave_out_for_edges(
+    random: &mut Random,
+    automaton: &Automaton,
+    rows: &[Region],
+    once_in: usize,
+) -> Vec<Region> {
+    let waits = rows
+        .iter()
+        .filter_map(|row| row.time_successor(&automaton.bounds));
+    let waits: HashSet<Region> = waits.collect();
+    let initial = Region::initial(automaton);
+    let has_to_stay = |row: &Region| *row == initial || waits.contains(row);
+    let stays = |row: &&Region| has_to_stay(row) || !random.once_in(once_in);
+    rows.iter().filter(stays).copied().collect()
+}
+
+/// Spoils a list of rows: one or several missing, one more, two exchanged, one twice.
 pub fn spoil_rows(random: &mut Random, automaton: &Automaton, rows: &mut Vec<Region>) {
     if rows.is_empty() {
         return;
     }
     let index = random.below(rows.len());
-    match random.below(6) {
+    match random.below(7) {
         0 | 1 => {
             rows.remove(index);
         }
         2 => {
+            let once_in = random.pick(&[2, 4, 16]);
+            *rows = leave_out(random, automaton, rows, once_in);
+        }
+        3 => {
             rows.push(rows::row(random, automaton));
             rows.sort_unstable();
             rows.dedup();
         }
-        3 => rows.insert(random.below(rows.len() + 1), rows::row(random, automaton)),
-        4 => {
+        4 => rows.insert(random.below(rows.len() + 1), rows::row(random, automaton)),
+        5 => {
             let other = random.below(rows.len());
             rows.swap(index, other);
         }

@@ -4,15 +4,20 @@ use crate::automaton::GREATEST_EDGES;
 use std::path::PathBuf;
 
 pub const USAGE: &str = "\
-usage: slow_lists [--seed N] [--seconds N] [--edges K] [--folder DIR]
+usage: slow_lists [--refused] [--seed N] [--seconds N] [--edges K] [--folder DIR]
+  --refused     seek lists that lack rows and take long to be refused
   --seed N      random numbers of another seed (30701)
   --seconds N   processor time to search for, in seconds (600)
   --edges K     copies of the edge in the table that is written, 1 to 256 (256)
   --folder DIR  where table.tab and proof.prf are written (target/slow_lists)";
 
+const NAMES: [&str; 5] = ["--refused", "--seed", "--seconds", "--edges", "--folder"];
+
 /// What the program is asked to do.
 #[derive(Clone, Debug, PartialEq, Eq)]
 pub struct Arguments {
+    /// Lists that are refused, not such as are accepted.
+    pub refused: bool,
     pub seed: u64,
     pub seconds: u64,
     pub edges: usize,
@@ -22,6 +27,7 @@ pub struct Arguments {
 impl Default for Arguments {
     fn default() -> Self {
         Arguments {
+            refused: false,
             seed: 30_701,
             seconds: 600,
             edges: GREATEST_EDGES,
@@ -35,18 +41,20 @@ impl Arguments {
     pub fn parse(words: &[String]) -> Result<Arguments, String> {
         let mut arguments = Arguments::default();
         let mut seen: Vec<&str> = Vec::new();
-        for pair in words.chunks(2) {
-            let name = pair[0].as_str();
-            if !["--seed", "--seconds", "--edges", "--folder"].contains(&name) {
+        let mut words = words.iter().map(String::as_str);
+        while let Some(name) = words.next() {
+            if !NAMES.contains(&name) {
                 return Err(format!("what is '{name}'?"));
             }
-            let [_, value] = pair else {
-                return Err(format!("{name} needs a value"));
-            };
             if seen.contains(&name) {
                 return Err(format!("{name} stands twice"));
             }
             seen.push(name);
+            if name == "--refused" {
+                arguments.refused = true;
+                continue;
+            }
+            let value = words.next().ok_or(format!("{name} needs a value"))?;
             arguments.set(name, value)?;
         }
         Ok(arguments)

@@ -1,10 +1,14 @@
 //! A table of one edge, and which rows its list begins with.
 //!
 //! A list is those rows, the initial row, and all that they lead to, so that it is
-//! closed whatever the table; only its length may be too great.
+//! closed whatever the table; only its length may be too great. Where refusals are
+//! sought, some of its rows are left out again.
 
+use super::falling::falling_guards;
+use super::gaps::Gaps;
+use super::open_list::OpenList;
 use super::rows::{count_rows, rows_of};
-use crate::automaton::{Automaton, Edge, Update, GREATEST_BOUND, GREATEST_CLOCKS};
+use crate::automaton::{Automaton, Edge, Update, GREATEST_BOUND, GREATEST_CLOCKS, GREATEST_GUARDS};
 use crate::explore::closure_from;
 use crate::generate::{rows, tables, Random};
 use crate::region::{region_of, Region};
@@ -41,6 +45,8 @@ pub struct Candidate {
     pub twins: Vec<usize>,
     /// One for each location.
     pub shares: Vec<Share>,
+    /// Which rows are left out, if any are to be.
+    pub gaps: Option<Gaps>,
 }
 
 impl Candidate {
@@ -62,6 +68,7 @@ impl Candidate {
                 updates: vec![Update::Keep; clocks],
             },
             shares: vec![Share::Nothing; locations],
+            gaps: None,
             bounds,
         };
         if random.once_in(2) {
@@ -82,6 +89,15 @@ impl Candidate {
         candidate
     }
 
+    /// Any candidate with rows to be left out.
+    pub fn random_open(random: &mut Random) -> Candidate {
+        let gaps = Some(Gaps::random(random));
+        Candidate {
+            gaps,
+            ..Candidate::random(random)
+        }
+    }
+
     pub fn clocks(&self) -> usize {
         self.bounds.len()
     }
@@ -93,6 +109,30 @@ impl Candidate {
             initial: self.initial,
             ..Automaton::without_final(self.shares.len(), &self.bounds, edges)
         }
+    }
+
+    /// The table with the edge so many times, and besides with guards that fall from one to the next: by
+    /// each of them an earlier row may lack a next row than by those before it.
+    pub fn automaton_with_falling_guards(&self, edges: usize) -> Automaton {
+        let room = GREATEST_GUARDS - self.edge.guards.len();
+        let clocks: Vec<usize> = self.first_clocks().take(room).collect();
+        let mut automaton = self.automaton(edges);
+        let guards = falling_guards(&self.bounds, &clocks, edges);
+        for (edge, guards) in automaton.edges.iter_mut().zip(guards) {
+            edge.guards.extend(guards);
+        }
+        automaton
+    }
+
+    /// The closed list and what is left of it, for such a table; none if nothing is to be left out.
+    pub fn open_list(&self, closed: Vec<Region>, edges: usize) -> Option<OpenList> {
+        let automaton = self.automaton_with_falling_guards(edges);
+        let open = self.gaps?.open(&automaton, &closed);
+        Some(OpenList {
+            automaton,
+            closed,
+            open,
+        })
     }
 
     /// A clock is from now on always equal to one before it, or to none.
@@ -187,10 +227,15 @@ impl Candidate {
         counts.sum()
     }
 
-    /// The bounds of the clocks that equal none before them.
+    /// The clocks that equal none before them.
+    fn first_clocks(&self) -> impl Iterator<Item = usize> + '_ {
+        (0..self.clocks()).filter(|clock| self.twins[*clock] == *clock)
+    }
+
     fn first_bounds(&self) -> Vec<u8> {
-        let firsts = (0..self.clocks()).filter(|clock| self.twins[*clock] == *clock);
-        firsts.map(|clock| self.bounds[clock]).collect()
+        self.first_clocks()
+            .map(|clock| self.bounds[clock])
+            .collect()
     }
 
     /// The rows that the list has from the start, ascending.
@@ -254,7 +299,11 @@ impl fmt::Display for Candidate {
                 Share::All => write!(out, ", all rows of {location}")?,
             }
         }
-        write!(out, ", and all that these lead to")
+        write!(out, ", and all that these lead to")?;
+        match &self.gaps {
+            Some(gaps) => write!(out, ", {gaps}"),
+            None => Ok(()),
+        }
     }
 }
 

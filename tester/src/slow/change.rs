@@ -23,6 +23,12 @@ impl Candidate {
 
     /// Changes one thing; the clock whose bound it was, if it was one.
     fn change(&mut self, random: &mut Random) -> Option<usize> {
+        if let Some(gaps) = &mut self.gaps {
+            if random.once_in(4) {
+                gaps.change(random);
+                return None;
+            }
+        }
         let clock = random.below(self.clocks());
         match random.below(16) {
             0..=2 => return Some(self.change_bound(random)),

@@ -1,10 +1,11 @@
 //! A table and a region list as files, for both sides.
 
+use crate::answer::Answer;
 use crate::automaton::Automaton;
 use crate::format::encode_table;
 use crate::region::Region;
 use crate::region_list::encode_regions;
-use crate::{check_regions, library, ListAnswer};
+use crate::{check_regions, library};
 use std::hint::black_box;
 
 /// The two files of one check.
@@ -28,7 +29,7 @@ impl Pair {
     }
 
     /// The answer of the rules.
-    pub fn rules(&self) -> ListAnswer {
+    pub fn rules(&self) -> Answer {
         check_regions(black_box(&self.table), black_box(&self.list))
     }
 }

@@ -11,7 +11,6 @@ use crate::answer::Answer;
 use crate::cpu_time::{cpu_time, mean_seconds};
 use crate::region::Region;
 use crate::region_list::GREATEST_ROWS;
-use crate::ListAnswer;
 
 /// A call is made at least so often, and a short one again until all took so many seconds together,
 /// or it was made so often.
@@ -74,7 +73,7 @@ pub fn checker_score(candidate: &Candidate, rows: &[Region]) -> Score {
 
 /// The same for the rules.
 pub fn rules_score(candidate: &Candidate, rows: &[Region]) -> Score {
-    let accepted = ListAnswer::Sole(Answer::Accepted(rows.len() as u32));
+    let accepted = Answer::Accepted(rows.len() as u32);
     let seconds = |edges| {
         let pair = pair_of(candidate, rows, edges);
         seconds_of(&mut || assert_eq!(pair.rules(), accepted, "{candidate}"))
@@ -84,7 +83,7 @@ pub fn rules_score(candidate: &Candidate, rows: &[Region]) -> Score {
 
 /// The list of a candidate, and the seconds of the checker's first check of it; none if it is too
 /// long. The checker says whether the start is closed already: the rules go over all next rows for it.
-fn first_check(candidate: &Candidate) -> Option<(Vec<Region>, f64)> {
+pub(super) fn first_check(candidate: &Candidate) -> Option<(Vec<Region>, f64)> {
     let start = candidate.start();
     if start.len() > usize::from(GREATEST_ROWS) {
         return None;

@@ -39,6 +39,7 @@ pub struct Found {
 /// other work on the machine, so those of all climbs are kept to be timed again.
 pub struct Search<'judge> {
     judge: &'judge mut dyn Judge,
+    make: fn(&mut Random) -> Candidate,
     seed: u64,
     pub best: Option<Found>,
     /// The best of each climb.
@@ -51,9 +52,15 @@ pub struct Search<'judge> {
 pub type Watch<'watch> = dyn FnMut(&Search, bool) + 'watch;
 
 impl<'judge> Search<'judge> {
-    pub fn new(judge: &'judge mut dyn Judge, seed: u64) -> Self {
+    /// A search among the candidates that `make` makes.
+    pub fn new(
+        judge: &'judge mut dyn Judge,
+        make: fn(&mut Random) -> Candidate,
+        seed: u64,
+    ) -> Self {
         Search {
             judge,
+            make,
             seed,
             best: None,
             summits: Vec::new(),
@@ -106,7 +113,7 @@ impl<'judge> Search<'judge> {
                 break;
             }
             let floor = slowest.as_ref().map_or(0.0, |found| found.score);
-            let found = self.attempt(Candidate::random(random), floor, watch);
+            let found = self.attempt((self.make)(random), floor, watch);
             slowest = found.or(slowest);
         }
         slowest

@@ -1,6 +1,9 @@
 //! Short forms for hand-made automata and files, and random ones several tests share.
 #![allow(dead_code, unused_imports)]
 
+mod closed;
+pub use closed::Closed;
+
 use tzelmaruf_tester::answer::Answer;
 use tzelmaruf_tester::automaton::*;
 use tzelmaruf_tester::explore::{Move, PathStep};

@@ -17,13 +17,13 @@ use Rattle.automata.proofs.Laws.Members.{getD-in}
 use Rattle.automata.proofs.Laws.Next.{next-rows-law}
 use Rattle.automata.proofs.Laws.Checks.{belowb-law, has-law}
 use Rattle.table_files.specs.Bytes.{AreBytes}
-use Rattle.table_files.specs.Answer.{Answer, accepted, refused}
+use Rattle.table_files.specs.Answer.{accepted, refused}
 use Rattle.table_files.specs.Reading.{Read, good, bad, Reader, carry, done, require, answered}
-use Rattle.table_files.specs.Admission.{admitted, admission, table-of}
+use Rattle.table_files.specs.Admission.{admitted, table-of}
 use Rattle.calls.specs.RegionFile.{region-file, rows-read, rows-of, list-bytes, ascending, none-final, none-open, list-checked, list-answer}
 use Rattle.table_files.specs.Meaning.{Passes}
 use Rattle.calls.specs.Meaning.{RegionListOf, Lacks, OpenListOf}
-use Rattle.table_files.proofs.Laws.Reading.{not-good, cons-all, parts, tested, goes, passes, not-refused}
+use Rattle.table_files.proofs.Laws.Reading.{not-good, cons-all, parts, tested, goes, passes}
 use Rattle.table_files.proofs.Laws.Admission.{read-admitted, admission-read, read-admission, admission-admitted}
 use Rattle.calls.proofs.Laws.Refusals.{Tame, not-bad, answered-good, answered-bad, tame-admitted, tame-region-file, tame-ascending, tame-none-final}
 use Rattle.calls.proofs.Laws.Open.{not-every, getD-any, full, full-law, all-full, full-passes, LeastOpen, least-refused, refused-least}

@@ -4,7 +4,6 @@ use native.Mathlib.Omega.{arith}
 use mathlib.Core.Path.{_≡_, refl}
 use mathlib.Core.List.{List}
 use lib.ListN.{length}
-use Rattle.automata.specs.Row.{Row}
 use Rattle.automata.specs.Automaton.{Table}
 use Rattle.table_files.specs.Answer.{Answer, accepted, refused, refusals, packed}
 use Rattle.table_files.specs.Reading.{Read, good, bad, carry, answered}

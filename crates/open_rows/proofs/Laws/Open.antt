@@ -55,18 +55,18 @@ module _ (P : ℕ → Type 0) (lo hi : ℕ) where
     pub halving-ends : first ≤ low → FirstOpen P lo hi first
     halving-ends l = record { from = omega (arith, H .from, H .low-top, H .top-first); to = H .to; before = λ i a b. H .before i a (omega (arith, H .low-top, H .top-first)); here = H .here }
 
-    module _ (r : ℕ) (S : SomeOpen P low top r) where
-      -- one is found, and those before it are left
-      pub halving-fails : r < top → (top′ : ℕ) → low ≤ top′ → top′ ≤ r → (low < r → low < top′) → Halving low r top′
-      halving-fails l top′ a b some = record { from = H .from; some = some; low-top = a; top-first = b; to = omega (arith, H .top-first, H .to); before = H .before; here = λ k. S .here l }
+    -- one is found, and those before it are left
+    pub halving-fails : (r : ℕ) → r < top → (P r → ⊥) → (top′ : ℕ) → low ≤ top′ → top′ ≤ r → (low < r → low < top′) → Halving low r top′
+    halving-fails r l h top′ a b some =
+        record { from = H .from; some = some; low-top = a; top-first = b; to = omega (arith, H .top-first, H .to); before = H .before; here = λ k. h }
 
-      -- none is
-      pub halving-passes : top ≤ r → Halving top first first
-      halving-passes n = record { from = omega (arith, H .from, H .low-top); some = λ l. l; low-top = H .top-first; top-first = omega arith; to = H .to; before = λ i a b. go i a b (decLt i low); here = H .here }
-        where
-          go : (i : ℕ) → lo ≤ i → i < top → Dec (i < low) → P i
-          go i a b (yes l) = H .before i a l
-          go i a b (no l) = S .all (omega (arith, S .to)) i (omega arith) b
+    -- none is
+    pub halving-passes : (r : ℕ) → SomeOpen P low top r → top ≤ r → Halving top first first
+    halving-passes r S n = record { from = omega (arith, H .from, H .low-top); some = λ l. l; low-top = H .top-first; top-first = omega arith; to = H .to; before = λ i a b. go i a b (decLt i low); here = H .here }
+      where
+        go : (i : ℕ) → lo ≤ i → i < top → Dec (i < low) → P i
+        go i a b (yes l) = H .before i a l
+        go i a b (no l) = S .all (omega (arith, S .to)) i (omega arith) b
 
 -- of one thing and of another ----------------------------------------------------------------------------------------------------------------
 

@@ -9,7 +9,7 @@ use lib.Seq.{drop-at, getD-take}
 use Rattle.automata.specs.Clocks.{at}
 use Rattle.automata.specs.Row.{Row}
 use Rattle.automata.specs.Automaton.{Table, clocks}
-use Rattle.automata.specs.Closed.{Mem, Ascends, first-row, RowOf}
+use Rattle.automata.specs.Closed.{Ascends, first-row, RowOf}
 use Rattle.automata.specs.Next.{next-rows}
 use Rattle.automata.specs.Checks.{has}
 use Rattle.automata.proofs.Laws.Tests.{fails}

@@ -2,14 +2,14 @@
 
 pub mod families;
 pub mod found;
+pub mod refused;
 
-use crate::answer::Answer;
+use crate::answer::{number, Answer, Refusal};
 use crate::automaton::{Automaton, Edge};
 use crate::explore::closure_from;
 use crate::region::{all_rows, Region};
 use crate::region_list::GREATEST_ROWS;
 use crate::slow::rows::rows_of;
-use crate::ListAnswer;
 
 /// Which rows a list has.
 #[derive(Clone, Debug)]
@@ -73,10 +73,10 @@ impl TimedList {
     }
 
     /// The answer that the list has to get.
-    pub fn expected(&self, rows: &[Region]) -> ListAnswer {
+    pub fn expected(&self, rows: &[Region]) -> Answer {
         match self.opening {
-            None => ListAnswer::Sole(Answer::Accepted(rows.len() as u32)),
-            Some(_) => ListAnswer::Lacking { places: vec![1] },
+            None => Answer::Accepted(rows.len() as u32),
+            Some(_) => Refusal::new(number::NEXT_ROW_MISSING, 1).into(),
         }
     }
 }
