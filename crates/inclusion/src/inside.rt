@@ -141,7 +141,7 @@ fn look(
 }
 
 // Whether every region that is ahead of a walk which stands there is in the list.
-fn all_inside(list: &[u8], count: usize, search: Search, start: Stand, hint: usize) -> Found
+pub fn all_inside(list: &[u8], count: usize, search: Search, start: Stand, hint: usize) -> Found
     requires { ⌜ Listed (search .clocks) (now list) count ⌝ }
     requires { ⌜ Ascends (listed-rows (search .clocks .count) (now list) count) ⌝ }
     requires { ⌜ Ready search ⌝ }
@@ -203,27 +203,4 @@ pub fn leads_inside(
         };
     }
     all_inside(list, count, search, start_in(way.target), hint)
-}
-
-// Where a region would stand that the list lacks, of those that an edge leads to from this one: the first. It is a hint where to look for that region, of
-// which nothing is promised.
-pub fn first_gap(
-    list: &[u8],
-    clocks: Clocks,
-    count: usize,
-    e: Edge,
-    from: Region,
-    hint: usize,
-) -> usize
-    requires { ⌜ Listed clocks (now list) count ⌝ }
-    requires { ⌜ Ascends (listed-rows (clocks .count) (now list) count) ⌝ }
-    requires { ⌜ Bounded (bounds-of clocks) (edge-of (clocks .count) e) ⌝ }
-    requires { ⌜ IsRow (bounds-of clocks) (row-of (clocks .count) from) ⌝ }
-{
-    let way = open_way(clocks, from, e);
-    if !way.leads {
-        return hint;
-    }
-    let seen = all_inside(list, count, way.search, start_in(way.target), hint);
-    seen.at
 }

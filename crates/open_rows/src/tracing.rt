@@ -4,8 +4,9 @@ ghost use mathlib.Core.Path.{_≡_};
 ghost use mathlib.Core.Bool.{true};
 ghost use Prim.Native.Nat.{ℕ, _≤_, _<_};
 ghost use Rattle.automata.specs.Row.{IsRow};
+ghost use Rattle.automata.specs.Edge.{Bounded};
 ghost use Rattle.automata.specs.Successors.{edge-rows};
-ghost use Rattle.regions.specs.Values.{bounds-of, row-of, edge-of};
+ghost use Rattle.regions.specs.Values.{Few, bounds-of, row-of, edge-of};
 ghost use Rattle.listed_rows.specs.Listed.{listed-row};
 ghost use Rattle.listed_rows.specs.Located.{RowsIn};
 ghost use Rattle.selection.specs.Chosen.{Offered};
@@ -13,7 +14,7 @@ ghost use Rattle.open_rows.specs.Open.{Inside};
 ghost use Rattle.open_rows.specs.Leading.{Suited, Stretch};
 use crate::walking::leads_from;
 use edge_walk::way::open_way;
-use inclusion::inside::first_gap;
+use inclusion::gaps::first_gap;
 use listed_rows::listed::Span;
 use listed_rows::listed::row_at;
 use regions::edge::Edge;
@@ -56,6 +57,23 @@ fn lacked_before(
     way.next(missing())
 }
 
+// Whether the edge permits the region's intervals, clock by clock, from another region. It asks few of the clocks where it does not.
+fn intervals_fit(clocks: Clocks, e: Edge, from: Region, region: Region) -> bool
+    requires { ⌜ Few clocks ⌝ }
+    requires { ⌜ Bounded (bounds-of clocks) (edge-of (clocks .count) e) ⌝ }
+{
+    let n = clocks.count as usize;
+    let mut z = 0;
+    while z < n {
+        let asked = from.clock_move(clocks, z, e.updates[z]);
+        if !asked.permits(region.intervals[z]) {
+            return false;
+        }
+        z += 1;
+    }
+    true
+}
+
 // Whether the edge can be taken from row i, and may lead to a region from there.
 fn leads_to(list: &[u8], clocks: Clocks, count: usize, e: Edge, i: usize, region: Region) -> bool
     requires { ⌜ Suited clocks (now list) count e ⌝ }
@@ -64,6 +82,9 @@ fn leads_to(list: &[u8], clocks: Clocks, count: usize, e: Edge, i: usize, region
     ensures { λ r. ⌜ (r ≡ true → Offered (edge-of (clocks .count) e) (clocks .count) (now (list .entry)) 0 count i) ⌝ }
 {
     let row = row_at(list, clocks.count as usize, i);
+    if !intervals_fit(clocks, e, row, region) {
+        return false;
+    }
     if !row.guards_hold(clocks, e) {
         return false;
     }
@@ -116,7 +137,7 @@ pub fn traced(
     ensures open { λ r. ⌜ (Inside (edge-rows (bounds-of clocks) (edge-of (clocks .count) e)) (clocks .count) (now (list .entry)) count r → ⊥) ⌝ }
 {
     let row = row_at(list, clocks.count as usize, i);
-    let gap = first_gap(list, clocks, count, e, row, 2 * count);
+    let gap = first_gap(list, clocks, count, e, row, into);
     let lacked = lacked_before(list, clocks, count, e, row, into, gap);
     let first = first_leading_to(list, clocks, count, e, lacked.region, start, i);
     if first < i {

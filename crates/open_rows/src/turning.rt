@@ -5,6 +5,7 @@ ghost use Prim.Native.Nat.{ℕ, _≤_, _<_};
 ghost use lib.ListN.{length};
 ghost use Rattle.automata.specs.Successors.{edge-rows};
 ghost use Rattle.regions.specs.Values.{bounds-of, edge-of};
+ghost use Rattle.listed_rows.specs.Listed.{Listed};
 ghost use Rattle.listed_rows.specs.Located.{RowsIn};
 ghost use Rattle.open_rows.specs.Open.{Inside, FirstOpen, SomeOpen};
 ghost use Rattle.open_rows.specs.Leading.{Suited, Stretch, Grouped};
@@ -12,6 +13,7 @@ use crate::tracing::traced;
 use crate::walking::least_chosen;
 use crate::walking::least_held;
 use listed_rows::listed::Span;
+use listed_rows::listed::location_at;
 use regions::edge::Edge;
 use regions::region::Clocks;
 use selection::choosing::choose;
@@ -95,16 +97,33 @@ fn open_by_walks(
     end
 }
 
-// How far to look next, if the edge leads into the list from the rows before low, and out of it from the first found so far: at all rows before that one,
-// or at half of them.
-fn next_top(low: usize, first: usize, halve: bool) -> usize
-    requires { ⌜ (low ≤ first) × (first ≤ 4096) ⌝ }
+// How far to look next, if the edge leads into the list from the rows before low, and out of it from the first found so far: at the rows between, but for
+// one part of two or of eight; where they are one part, at all of them.
+fn next_top(low: usize, first: usize, parts: u8) -> usize
+    requires { ⌜ low ≤ first ⌝ }
     ensures { λ r. ⌜ (low ≤ r) × (r ≤ first) × (low < first → low < r) ⌝ }
 {
-    if halve {
-        return low + (first - low + 1) / 2;
+    if parts == 2 {
+        return first - (first - low) / 2;
+    }
+    if parts == 8 {
+        return first - (first - low) / 8;
     }
     first
+}
+
+// In how many parts the rows before end are looked at: in one where end is that of their location. Where it is an open row, those right before it are likely
+// to be open too, and a few of these are left to the last, since little is known of rows that were looked at together with open ones.
+fn first_parts(list: &[u8], clocks: Clocks, count: usize, e: Edge, end: usize) -> u8
+    requires { ⌜ Listed clocks (now list) count ⌝ }
+{
+    if count <= end {
+        return 1;
+    }
+    if location_at(list, clocks.count as usize, end) != e.source {
+        return 1;
+    }
+    8
 }
 
 // The first row from start to before end from which the edge leads out of the list, or end. Where one is found, the first row is named that lacks the same
@@ -126,14 +145,14 @@ pub fn first_by_walks(
 {
     let mut low = start;
     let mut first = end;
-    let mut top = end;
-    let mut again = false;
+    let mut top = next_top(start, end, first_parts(list, clocks, count, e, end));
+    let mut parts = 1;
     while low < first {
         let open = open_by_walks(list, clocks, count, e, into, low, top);
         if open < top {
             first = traced(list, clocks, count, e, into, low, open);
-            top = next_top(low, first, again);
-            again = true;
+            top = next_top(low, first, parts);
+            parts = 2;
         } else {
             low = top;
             top = first;

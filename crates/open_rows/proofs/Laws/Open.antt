@@ -48,8 +48,9 @@ module _ (P : ℕ → Type 0) (lo hi : ℕ) where
     pub before : (i : ℕ) → lo ≤ i → i < low → P i
     pub here : first < hi → P first → ⊥
 
-  pub halving-begins : lo ≤ hi → Halving lo hi hi
-  halving-begins h = record { from = omega arith; some = λ l. l; low-top = h; top-first = omega arith; to = omega arith; before = λ i a b. absurd (omega arith); here = λ l. absurd (omega arith) }
+  pub halving-begins : lo ≤ hi → (top : ℕ) → lo ≤ top → top ≤ hi → (lo < hi → lo < top) → Halving lo hi top
+  halving-begins h top a b some =
+      record { from = omega arith; some = some; low-top = a; top-first = b; to = omega arith; before = λ i a b. absurd (omega arith); here = λ l. absurd (omega arith) }
 
   module _ (low first top : ℕ) (H : Halving low first top) where
     pub halving-ends : first ≤ low → FirstOpen P lo hi first

@@ -15,35 +15,44 @@ use Rattle.open_rows.proofs.tracing.leads_to.Lts as lts
 use Rattle.edge_walk.proofs.choice.Search.allows.Reads as allows-reads
 use Rattle.edge_walk.proofs.way.open_way.Reads as open-way-reads
 use Rattle.listed_rows.proofs.listed.row_at.Reads as row-at-reads
+use Rattle.open_rows.proofs.tracing.intervals_fit.Reads as intervals-fit-reads
 use Rattle.regions.proofs.region.Region.guards_hold.Reads as guards-hold-reads
 
--- src/tracing.rt:73:28
+-- src/tracing.rt:84:28
 cast-row-at : tie.Need-cast-row-at
 cast-row-at c = search needs
 
--- src/tracing.rt:73:9
+-- src/tracing.rt:84:9
 row-at-requires : tie.Need-row-at-requires
 row-at-requires c κs = let p = c .before .before .pre in (p .0 .listed .few .few, row-room _ _ _ _ (p .0 .listed .room) (p .1 .0))
 
--- src/tracing.rt:74:9
-guards-hold-requires : tie.Need-guards-hold-requires
-guards-hold-requires c κs = search needs
+-- src/tracing.rt:85:9
+intervals-fit-requires : tie.Need-intervals-fit-requires
+intervals-fit-requires c κs = search needs
 
--- src/tracing.rt:75:9
+-- src/tracing.rt:86:9
 returns : tie.Need-returns
 returns c = λ t. never t
 
--- src/tracing.rt:77:9
-open-way-requires : tie.Need-open-way-requires
-open-way-requires c κs = let p = c .before .before .before .before .before .pre in (p .0 .listed .few, (rw (listed-again _ _ _ _ (c .before .before .row-at .ensures)) (p .0 .listed .are-rows _ (p .1 .0)), p .0 .bounded))
+-- src/tracing.rt:88:9
+guards-hold-requires : tie.Need-guards-hold-requires
+guards-hold-requires c κs = search needs
 
--- src/tracing.rt:79:5
+-- src/tracing.rt:89:9
+returns-2 : tie.Need-returns-2
+returns-2 c = λ t. never t
+
+-- src/tracing.rt:91:9
+open-way-requires : tie.Need-open-way-requires
+open-way-requires c κs = let p = c .before .before .before .before .before .before .before .pre in (p .0 .listed .few, (rw (listed-again _ _ _ _ (c .before .before .before .before .row-at .ensures)) (p .0 .listed .are-rows _ (p .1 .0)), p .0 .bounded))
+
+-- src/tracing.rt:93:5
 allows-requires : tie.Need-allows-requires
 allows-requires c κs = c .before .open-way .ensures .0
 
--- src/tracing.rt:60:1
-returns-2 : tie.Need-returns-2
-returns-2 c = let a = c .before .before .before .before .before .before .before .before .args in let p = c .before .before .before .before .before .before .before .before .pre in let n = a .clocks .count in let e = edge-of n (a .e) in let cs = bounds-of (a .clocks) in let list = now (a .list) in λ t. record { from = omega arith; to = p .1 .0; located = p .1 .1; guarded = (ap (λ (r : Row). guardsb r (e .guards)) (sym (listed-again n list _ _ (c .before .before .before .before .before .row-at .ensures))) ∙ sym (c .before .before .before .before .guards-hold .ensures) ∙ not-false _ (c .before .before .before .if1 .left)) }
+-- src/tracing.rt:78:1
+returns-3 : tie.Need-returns-3
+returns-3 c = let a = c .before .before .before .before .before .before .before .before .before .before .args in let p = c .before .before .before .before .before .before .before .before .before .before .pre in let n = a .clocks .count in let e = edge-of n (a .e) in let cs = bounds-of (a .clocks) in let list = now (a .list) in λ t. record { from = omega arith; to = p .1 .0; located = p .1 .1; guarded = (ap (λ (r : Row). guardsb r (e .guards)) (sym (listed-again n list _ _ (c .before .before .before .before .before .before .before .row-at .ensures))) ∙ sym (c .before .before .before .before .guards-hold .ensures) ∙ not-false _ (c .before .before .before .if2 .left)) }
 
 pub leads-to-spec : {M : Type 1} → statement M
 leads-to-spec =
@@ -51,8 +60,10 @@ leads-to-spec =
     (tie.spec
     cast-row-at
     row-at-requires
-    guards-hold-requires
+    intervals-fit-requires
     returns
+    guards-hold-requires
+    returns-2
     open-way-requires
     allows-requires
-    returns-2)
+    returns-3)
