@@ -27,10 +27,11 @@
 
 /*
  * The release, as text and as a number: 10,000 for each major, 100 for each minor, 1 for each patch. From 1.1.0 on a table may have
- * comparison 5, not equal; 1.0.0 refuses it as out of range (TZELMARUF_TABLE_RANGE).
+ * comparison 5, not equal; 1.0.0 refuses it as out of range (TZELMARUF_TABLE_RANGE). From 1.2.0 on the place of
+ * TZELMARUF_NEXT_ROW_MISSING is that of the first row that lacks a next row; an older release may name a later one that does.
  */
-#define TZELMARUF_VERSION "1.1.3"
-#define TZELMARUF_VERSION_NUMBER 10103
+#define TZELMARUF_VERSION "1.2.0"
+#define TZELMARUF_VERSION_NUMBER 10200
 
 #ifdef __cplusplus
 extern "C" {
@@ -42,7 +43,10 @@ uint32_t tzelmaruf_admit(const uint8_t *table, size_t table_length);
 /* Checks a run list against a table: refusals 1 to 13, or the count of its steps. Accepted: the run enters a final location. */
 uint32_t tzelmaruf_check_run(const uint8_t *table, size_t table_length, const uint8_t *paper, size_t paper_length);
 
-/* Checks a region list against a table: refusals 1 to 9 and 14 to 17, or the count of its rows. Accepted: no run enters a final location. */
+/*
+ * Checks a region list against a table: refusals 1 to 9 and 14 to 17, or the count of its rows. Accepted: no run enters a final location.
+ * The place of 14, 15 and 17 is that of the first row at fault: 17 names the first row that lacks a next row.
+ */
 uint32_t tzelmaruf_check_regions(const uint8_t *table, size_t table_length, const uint8_t *paper, size_t paper_length);
 
 /* Why a file is refused: number, name and words of each refusal. `./run`, README.md and the tests go by these lines. */

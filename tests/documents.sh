@@ -125,7 +125,7 @@ done
 for folder in examples/*/; do
   echo "${folder%/} $(cat "$folder/expected")"
 done | sort > "$room/a"
-sed -nE 's/^\| `(examples\/[a-z-]+)` \| .* \| (`.*) \|$/\1 \2/p' README.md | sed 's/` or `/|/g' | tr -d '`' | sort > "$room/b"
+sed -nE 's/^\| `(examples\/[a-z-]+)` \| .* \| `([A-Z0-9 ]*)` \|$/\1 \2/p' README.md | sort > "$room/b"
 same 'the files expected (<) and the examples in README.md (>)'
 
 # ---- docs/FORMAT.md

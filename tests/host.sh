@@ -5,7 +5,6 @@
 # 'N passed, M failed'.
 set -u
 cd "$(dirname "$0")/.." || exit 1
-here=$PWD
 room=$(mktemp -d) && trap 'rm -rf "$room"' EXIT
 passed=0 failed=0
 written=target/staticlib/libchecker.a
@@ -98,11 +97,9 @@ words() {
     REFUSED) echo "REFUSED $number at record $place: $(sed -nE "s/^ *X\\($number, [A-Z_]+, \"(.*)\"\\).*/\\1/p" host/tzelmaruf.h)" ;;
   esac
 }
-# the examples: of the lines expected the first, or where a place is free the one that the program prints
+# the examples, each with the line expected there
 for folder in examples/*/; do
   expected=$(cat "$folder/expected")
-  case $expected in *'|'*) expected=$(cd "$folder" && "$here/target/bin/tzelmaruf") ;; esac
-  case "|$(cat "$folder/expected")|" in *"|$expected|"*) ok ;; *) bad "$folder: '$expected'" ;; esac
   case $expected in EMPTY*) status=0 ;; REFUSED*) status=1 ;; REACHED*) status=3 ;; esac
   run $status "$(words "$expected")" "$folder/table.tab" "$folder/proof.prf"
 done

@@ -1,8 +1,7 @@
 #!/usr/bin/env bash
 # Runs the program on each folder of tests/program and examples, and on files that are longer than any it accepts, and compares what it prints with the
-# line expected there (where a place is free, one of the lines between '|'). Then on a folder for each refusal: the number that it prints is the one
-# that host/tzelmaruf.h gives the folder's name. Then on files that are read in small pieces, and of which a read fails. The last line is 'N passed,
-# M failed'.
+# one line expected there. Then on a folder for each refusal: the number that it prints is the one that host/tzelmaruf.h gives the folder's name. Then
+# on files that are read in small pieces, and of which a read fails. The last line is 'N passed, M failed'.
 set -u
 cd "$(dirname "$0")/.." || exit 1
 program=$PWD/target/bin/tzelmaruf
@@ -17,10 +16,7 @@ command -v gcc > /dev/null || { echo "program: no command 'gcc' on the PATH"; ec
 check() {
   local got
   got=$(cd "$2" && env "${settings[@]}" "$program" 2>&1)
-  case "|$3|" in
-    *"|$got|"*) passed=$((passed + 1)) ;;
-    *) failed=$((failed + 1)); echo "program: $1: printed '$got', expected '$3'" ;;
-  esac
+  if [ "$got" = "$3" ]; then passed=$((passed + 1)); else failed=$((failed + 1)); echo "program: $1: printed '$got', expected '$3'"; fi
 }
 
 for folder in tests/program/*/ examples/*/; do

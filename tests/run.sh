@@ -18,16 +18,16 @@ bad() { failed=$((failed + 1)); echo "run: $*"; }
 # is WHAT EXPECTED GOT
 is() { if [ "$2" = "$3" ]; then ok; else bad "$1: '$3', expected '$2'"; fi; }
 
-# run NAME STATUS LINES NOTE COMMAND..: what the command prints (one of the lines between '|'), its exit status, and a part of what it says besides
+# run NAME STATUS LINE NOTE COMMAND..: what the command prints, its exit status, and a part of what it says besides
 run() {
-  local name=$1 status=$2 lines=$3 note=$4 got said is_right=0
+  local name=$1 status=$2 line=$3 note=$4 got said is_right=0
   shift 4
   got=$("$@" 2> "$room/said")
   [ $? -eq "$status" ] && is_right=1
   said=$(cat "$room/said")
-  case "|$lines|" in *"|$got|"*) ;; *) is_right=0 ;; esac
+  [ "$got" = "$line" ] || is_right=0
   case $said in *"$note"*) ;; *) is_right=0 ;; esac
-  if [ $is_right -eq 1 ]; then ok; else bad "$name: printed '$got', said '$said'; expected $status, '$lines' and '$note'"; fi
+  if [ $is_right -eq 1 ]; then ok; else bad "$name: printed '$got', said '$said'; expected $status, '$line' and '$note'"; fi
 }
 
 # what was said last has, or has not, a line that begins so

@@ -3,6 +3,7 @@ pub mod Open
 pub mod Waiting
 pub mod Sole
 pub mod Known
+pub mod Tracing
 pub mod Turning
 pub mod Alike
 pub mod Sides

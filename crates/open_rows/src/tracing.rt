@@ -1,21 +1,21 @@
-// From a row of a region list that lacks a next row by an edge to the first row that lacks the same. What is lacked, and which rows lead to it, is only
-// guessed here: a row is named if the edge is found to lead out of the list from it.
+// From a row of a region list that lacks a next row by an edge to the first row that lacks the same. Which region that is is guessed: it counts if it is one of
+// the target that the list lacks, and then each row that the edge leads to it from is open.
 ghost use mathlib.Core.Path.{_≡_};
 ghost use mathlib.Core.Bool.{true};
 ghost use Prim.Native.Nat.{ℕ, _≤_, _<_};
 ghost use Rattle.automata.specs.Row.{IsRow};
 ghost use Rattle.automata.specs.Edge.{Bounded};
+ghost use Rattle.automata.specs.Closed.{Mem};
 ghost use Rattle.automata.specs.Successors.{edge-rows};
 ghost use Rattle.regions.specs.Values.{Few, bounds-of, row-of, edge-of};
 ghost use Rattle.listed_rows.specs.Listed.{listed-row};
 ghost use Rattle.listed_rows.specs.Located.{RowsIn};
-ghost use Rattle.selection.specs.Chosen.{Offered};
 ghost use Rattle.open_rows.specs.Open.{Inside};
-ghost use Rattle.open_rows.specs.Leading.{Suited, Stretch};
-use crate::walking::leads_from;
+ghost use Rattle.open_rows.specs.Leading.{Suited, Stretch, Lacked};
 use edge_walk::way::open_way;
 use inclusion::gaps::first_gap;
 use listed_rows::listed::Span;
+use listed_rows::listed::find;
 use listed_rows::listed::row_at;
 use regions::edge::Edge;
 use regions::region::Clocks;
@@ -74,12 +74,32 @@ fn intervals_fit(clocks: Clocks, e: Edge, from: Region, region: Region) -> bool
     true
 }
 
-// Whether the edge can be taken from row i, and may lead to a region from there.
+// Whether a region that was guessed is one of the target, and is not in the list.
+fn is_lacked(list: &[u8], clocks: Clocks, count: usize, e: Edge, guess: Sought) -> bool
+    requires { ⌜ Suited clocks (now list) count e ⌝ }
+    ensures { λ r. ⌜ (r ≡ true → Lacked clocks (now (list .entry)) count e (guess .region)) ⌝ }
+{
+    if !guess.found {
+        return false;
+    }
+    let region = guess.region;
+    if region.location != e.target {
+        return false;
+    }
+    if !region.is_region(clocks) {
+        return false;
+    }
+    let found = find(list, clocks, count, region, 2 * count);
+    !found.listed
+}
+
+// Whether the edge leads to a region of its target from row i.
 fn leads_to(list: &[u8], clocks: Clocks, count: usize, e: Edge, i: usize, region: Region) -> bool
     requires { ⌜ Suited clocks (now list) count e ⌝ }
     requires { ⌜ i < count ⌝ }
     requires { ⌜ listed-row (clocks .count) (now list) i .location ≡ e .source ⌝ }
-    ensures { λ r. ⌜ (r ≡ true → Offered (edge-of (clocks .count) e) (clocks .count) (now (list .entry)) 0 count i) ⌝ }
+    requires { ⌜ Lacked clocks (now list) count e region ⌝ }
+    ensures { λ r. ⌜ (r ≡ true → Mem (row-of (clocks .count) region) (edge-rows (bounds-of clocks) (edge-of (clocks .count) e) (listed-row (clocks .count) (now (list .entry)) i))) ⌝ }
 {
     let row = row_at(list, clocks.count as usize, i);
     if !intervals_fit(clocks, e, row, region) {
@@ -89,11 +109,14 @@ fn leads_to(list: &[u8], clocks: Clocks, count: usize, e: Edge, i: usize, region
         return false;
     }
     let way = open_way(clocks, row, e);
+    if !way.leads {
+        return false;
+    }
     let search = way.search;
     search.allows(region)
 }
 
-// The first row from start to before end from which the edge may lead to a region, or end.
+// The first row from start to before end from which the edge leads to a region that the list lacks, or end.
 fn first_leading_to(
     list: &[u8],
     clocks: Clocks,
@@ -105,8 +128,9 @@ fn first_leading_to(
 ) -> usize
     requires { ⌜ Suited clocks (now list) count e ⌝ }
     requires { ⌜ Stretch (clocks .count) (now list) count (e .source) start end ⌝ }
+    requires { ⌜ Lacked clocks (now list) count e region ⌝ }
     ensures range { λ r. ⌜ (start ≤ r) × (r ≤ end) ⌝ }
-    ensures offered { λ r. ⌜ (r < end → Offered (edge-of (clocks .count) e) (clocks .count) (now (list .entry)) 0 count r) ⌝ }
+    ensures leads { λ r. ⌜ (r < end → Mem (row-of (clocks .count) region) (edge-rows (bounds-of clocks) (edge-of (clocks .count) e) (listed-row (clocks .count) (now (list .entry)) r))) ⌝ }
 {
     let mut i = start;
     while i < end {
@@ -118,7 +142,7 @@ fn first_leading_to(
     end
 }
 
-// A row from start to before row i, which is open, that is open too: the first that may lack what row i lacks first; or row i.
+// An open row from start to before end, or end: the first that lacks what the last of them seems to lack. Where end is told the last may be open all the same.
 pub fn traced(
     list: &[u8],
     clocks: Clocks,
@@ -126,25 +150,20 @@ pub fn traced(
     e: Edge,
     into: Span,
     start: usize,
-    i: usize,
+    end: usize,
 ) -> usize
     requires { ⌜ Suited clocks (now list) count e ⌝ }
     requires { ⌜ RowsIn (clocks .count) (now list) count (e .target) (into .start) (into .end) ⌝ }
-    requires { ⌜ Stretch (clocks .count) (now list) count (e .source) start i ⌝ }
-    requires { ⌜ i < count ⌝ }
-    requires { ⌜ (Inside (edge-rows (bounds-of clocks) (edge-of (clocks .count) e)) (clocks .count) (now list) count i → ⊥) ⌝ }
-    ensures range { λ r. ⌜ (start ≤ r) × (r ≤ i) ⌝ }
-    ensures open { λ r. ⌜ (Inside (edge-rows (bounds-of clocks) (edge-of (clocks .count) e)) (clocks .count) (now (list .entry)) count r → ⊥) ⌝ }
+    requires { ⌜ Stretch (clocks .count) (now list) count (e .source) start end ⌝ }
+    requires { ⌜ start < end ⌝ }
+    ensures range { λ r. ⌜ (start ≤ r) × (r ≤ end) ⌝ }
+    ensures open { λ r. ⌜ (r < end → Inside (edge-rows (bounds-of clocks) (edge-of (clocks .count) e)) (clocks .count) (now (list .entry)) count r → ⊥) ⌝ }
 {
-    let row = row_at(list, clocks.count as usize, i);
+    let row = row_at(list, clocks.count as usize, end - 1);
     let gap = first_gap(list, clocks, count, e, row, into);
-    let lacked = lacked_before(list, clocks, count, e, row, into, gap);
-    let first = first_leading_to(list, clocks, count, e, lacked.region, start, i);
-    if first < i {
-        let found = leads_from(list, clocks, count, e, into, first, gap);
-        if !found.listed {
-            return first;
-        }
+    let guess = lacked_before(list, clocks, count, e, row, into, gap);
+    if !is_lacked(list, clocks, count, e, guess) {
+        return end;
     }
-    i
+    first_leading_to(list, clocks, count, e, guess.region, start, end)
 }

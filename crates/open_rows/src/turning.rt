@@ -1,11 +1,10 @@
 // The first row of a location from which an edge leads out of a region list, if the edge may lead to many regions: it is walked from few rows, which tell for
 // all, and then from few of those before one from which it leads out.
 ghost use mathlib.Core.Path.{_≡_};
-ghost use Prim.Native.Nat.{ℕ, _≤_, _<_};
+ghost use Prim.Native.Nat.{ℕ, _≤_, _<_, min};
 ghost use lib.ListN.{length};
 ghost use Rattle.automata.specs.Successors.{edge-rows};
 ghost use Rattle.regions.specs.Values.{bounds-of, edge-of};
-ghost use Rattle.listed_rows.specs.Listed.{Listed};
 ghost use Rattle.listed_rows.specs.Located.{RowsIn};
 ghost use Rattle.open_rows.specs.Open.{Inside, FirstOpen, SomeOpen};
 ghost use Rattle.open_rows.specs.Leading.{Suited, Stretch, Grouped};
@@ -97,36 +96,58 @@ fn open_by_walks(
     end
 }
 
-// How far to look next, if the edge leads into the list from the rows before low, and out of it from the first found so far: at the rows between, but for
-// one part of two or of eight; where they are one part, at all of them.
-fn next_top(low: usize, first: usize, parts: u8) -> usize
+// The lesser of two rows.
+fn least(a: usize, b: usize) -> usize
+    ensures { λ r. ⌜ r ≡ min a b ⌝ }
+{
+    if a < b {
+        return a;
+    }
+    b
+}
+
+// How far to look next, if the edge leads into the list from the rows before low, and out of it from the first found so far: at all rows before that one,
+// or at half of them.
+fn next_top(low: usize, first: usize, halve: bool) -> usize
     requires { ⌜ low ≤ first ⌝ }
     ensures { λ r. ⌜ (low ≤ r) × (r ≤ first) × (low < first → low < r) ⌝ }
 {
-    if parts == 2 {
+    if halve {
         return first - (first - low) / 2;
-    }
-    if parts == 8 {
-        return first - (first - low) / 8;
     }
     first
 }
 
-// In how many parts the rows before end are looked at: in one where end is that of their location. Where it is an open row, those right before it are likely
-// to be open too, and a few of these are left to the last, since little is known of rows that were looked at together with open ones.
-fn first_parts(list: &[u8], clocks: Clocks, count: usize, e: Edge, end: usize) -> u8
-    requires { ⌜ Listed clocks (now list) count ⌝ }
+// An open row from start to before end, or end. One is looked for only where the row at end is in the edge's source too: it is open then, and the one before it is
+// likely to be. So rows are looked at together only once it is known what that one lacks.
+fn open_at_end(
+    list: &[u8],
+    clocks: Clocks,
+    count: usize,
+    e: Edge,
+    into: Span,
+    start: usize,
+    end: usize,
+) -> usize
+    requires { ⌜ Suited clocks (now list) count e ⌝ }
+    requires { ⌜ RowsIn (clocks .count) (now list) count (e .target) (into .start) (into .end) ⌝ }
+    requires { ⌜ Stretch (clocks .count) (now list) count (e .source) start end ⌝ }
+    ensures range { λ r. ⌜ (start ≤ r) × (r ≤ end) ⌝ }
+    ensures open { λ r. ⌜ (r < end → Inside (edge-rows (bounds-of clocks) (edge-of (clocks .count) e)) (clocks .count) (now (list .entry)) count r → ⊥) ⌝ }
 {
+    if end <= start {
+        return end;
+    }
     if count <= end {
-        return 1;
+        return end;
     }
     if location_at(list, clocks.count as usize, end) != e.source {
-        return 1;
+        return end;
     }
-    8
+    traced(list, clocks, count, e, into, start, end)
 }
 
-// The first row from start to before end from which the edge leads out of the list, or end. Where one is found, the first row is named that lacks the same
+// The first row from start to before end from which the edge leads out of the list, or end. Where one is found, the first row is sought that lacks the same
 // (`traced`), and only the rows before that are left. Of those that the open row told for nothing is known now: all of them are looked at once
 // more, and where one of these is open too, half of them, and the others where none of that half is. So they are at most half as many after every two times.
 pub fn first_by_walks(
@@ -144,15 +165,15 @@ pub fn first_by_walks(
     ensures { λ r. ⌜ FirstOpen (Inside (edge-rows (bounds-of clocks) (edge-of (clocks .count) e)) (clocks .count) (now (list .entry)) count) start end r ⌝ }
 {
     let mut low = start;
-    let mut first = end;
-    let mut top = next_top(start, end, first_parts(list, clocks, count, e, end));
-    let mut parts = 1;
+    let mut first = open_at_end(list, clocks, count, e, into, start, end);
+    let mut top = first;
+    let mut again = false;
     while low < first {
         let open = open_by_walks(list, clocks, count, e, into, low, top);
         if open < top {
-            first = traced(list, clocks, count, e, into, low, open);
-            top = next_top(low, first, parts);
-            parts = 2;
+            first = least(open, traced(list, clocks, count, e, into, low, open + 1));
+            top = next_top(low, first, again);
+            again = true;
         } else {
             low = top;
             top = first;

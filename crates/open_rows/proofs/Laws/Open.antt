@@ -1,5 +1,5 @@
 -- The first of some numbers of which something does not hold, found in parts: less and less of it, of one thing and of another, by halves. Assumes nothing.
-use Prim.Native.Nat.{ℕ, _+_, _≤_, _<_}
+use Prim.Native.Nat.{ℕ, _+_, _≤_, _<_, min}
 use native.Mathlib.Decide.{decLt, ℕ-discrete}
 use native.Mathlib.Omega.{arith}
 use mathlib.Core.Path.{_≡_, refl, sym, subst}
@@ -48,9 +48,9 @@ module _ (P : ℕ → Type 0) (lo hi : ℕ) where
     pub before : (i : ℕ) → lo ≤ i → i < low → P i
     pub here : first < hi → P first → ⊥
 
-  pub halving-begins : lo ≤ hi → (top : ℕ) → lo ≤ top → top ≤ hi → (lo < hi → lo < top) → Halving lo hi top
-  halving-begins h top a b some =
-      record { from = omega arith; some = some; low-top = a; top-first = b; to = omega arith; before = λ i a b. absurd (omega arith); here = λ l. absurd (omega arith) }
+  pub halving-begins : (first : ℕ) → lo ≤ first → first ≤ hi → (first < hi → P first → ⊥) → Halving lo first first
+  halving-begins first a b h =
+      record { from = omega arith; some = λ l. l; low-top = a; top-first = omega arith; to = b; before = λ i a b. absurd (omega arith); here = h }
 
   module _ (low first top : ℕ) (H : Halving low first top) where
     pub halving-ends : first ≤ low → FirstOpen P lo hi first
@@ -68,6 +68,14 @@ module _ (P : ℕ → Type 0) (lo hi : ℕ) where
         go : (i : ℕ) → lo ≤ i → i < top → Dec (i < low) → P i
         go i a b (yes l) = H .before i a l
         go i a b (no l) = S .all (omega (arith, S .to)) i (omega arith) b
+
+-- the lesser of two that are open, if the second is one that comes before the next after the first
+pub least-open : (P : ℕ → Type 0) (a b r : ℕ) → r ≡ min a b → (P a → ⊥) → (b < a + 1 → P b → ⊥) → P r → ⊥
+least-open P a b r q h g = go (decLt a b)
+  where
+    go : Dec (a < b) → P r → ⊥
+    go (yes l) = let e : r ≡ a = omega arith in subst (λ (i : ℕ). P i → ⊥) (sym e) h
+    go (no l) = let e : r ≡ b = omega arith in subst (λ (i : ℕ). P i → ⊥) (sym e) (g (omega arith))
 
 -- of one thing and of another ----------------------------------------------------------------------------------------------------------------
 
