@@ -40,7 +40,7 @@ fn first_from(list: &[u8], n: usize, k: usize, end: usize, wanted: Region) -> us
     end
 }
 
-// Where a row of these intervals would stand, if none of those from k to before end has them; else past the end.
+// Where a row of the part's intervals would stand, if there is none: row `at`, which is the first that is not below the part; else past the end.
 fn part_gap(list: &[u8], n: usize, at: usize, end: usize, part: Region) -> usize
     requires { ⌜ n ≤ 4 ⌝ }
     requires { ⌜ 4 + end * row-width n ≤ length (now list) ⌝ }
@@ -55,8 +55,8 @@ fn part_gap(list: &[u8], n: usize, at: usize, end: usize, part: Region) -> usize
     at
 }
 
-// Where a row would stand that has intervals which a walk over intervals alone chooses, from where it stands on, if no row from into.start to before into.end has
-// them: the first such; or past the end. Both ascend, so each row is passed once.
+// Where a row would stand of the first intervals that a walk over intervals alone chooses and that no row of the target has; or past the end. Both ascend,
+// so each row is passed once; and there are no more choices before that than rows.
 fn interval_gap(list: &[u8], search: Search, start: Stand, into: Span) -> usize
     requires { ⌜ Ready search ⌝ }
     requires { ⌜ Standing search start ⌝ }
@@ -83,7 +83,8 @@ fn interval_gap(list: &[u8], search: Search, start: Stand, into: Span) -> usize
     end + 1
 }
 
-// Where a region would stand that the list lacks, of those that an edge leads to from this one: the first of which no row has the intervals, or else the first.
+// Where a region would stand that the list lacks, of those that an edge leads to from this one: the first of which no row has the intervals, or else the
+// first of all.
 pub fn first_gap(
     list: &[u8],
     clocks: Clocks,

@@ -142,7 +142,8 @@ fn first_leading_to(
     end
 }
 
-// An open row from start to before end, or end: the first that lacks what the last of them seems to lack. Where end is told the last may be open all the same.
+// An open row from start to before end, or end: the first that lacks what the last of them seems to lack. Where end is told, the last may be open all the
+// same: what it lacks was guessed wrong.
 pub fn traced(
     list: &[u8],
     clocks: Clocks,

@@ -118,8 +118,8 @@ fn next_top(low: usize, first: usize, halve: bool) -> usize
     first
 }
 
-// An open row from start to before end, or end. One is looked for only where the row at end is in the edge's source too: it is open then, and the one before it is
-// likely to be. So rows are looked at together only once it is known what that one lacks.
+// An open row from start to before end, or end. One is looked for only where the row at end is in the edge's source too: it is open then, and the one before
+// it is likely to be. So rows are looked at together only once it is known what that one lacks.
 fn open_at_end(
     list: &[u8],
     clocks: Clocks,
