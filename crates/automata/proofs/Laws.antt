@@ -35,11 +35,13 @@ pub mod Rankings
 pub mod Successors
 pub mod Next
 pub mod Checks
+pub mod Insert
 -- tables
 pub mod Finer
 pub mod Start
 pub mod Closure
 pub mod Sound
 pub mod Complete
+pub mod Kept
 -- the main theorems
 pub mod Index

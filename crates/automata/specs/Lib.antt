@@ -13,5 +13,6 @@ pub mod Next
 pub mod Closed
 pub mod Checks
 pub mod Meeting
+pub mod Kept
 -- beside that, no part of any promise: how many ranks and rankings there are, which the checks go by
 pub mod Rankings

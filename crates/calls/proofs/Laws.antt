@@ -14,6 +14,8 @@ pub mod Open
 pub mod RegionLists
 -- following
 pub mod Follow
+-- making lists
+pub mod Making
 -- long files
 pub mod Prefix
 -- small answers
@@ -28,3 +30,4 @@ pub mod Index
 pub mod Examples
 pub mod Samples
 pub mod NotEqual
+pub mod MakeSamples

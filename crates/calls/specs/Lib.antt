@@ -2,6 +2,7 @@
 pub mod RunFile
 pub mod RegionFile
 pub mod Follow
+pub mod Making
 pub mod Text
 pub mod Program
 pub mod Meaning

@@ -4,7 +4,4 @@ pub mod Waiting
 pub mod Sole
 pub mod Known
 pub mod Tracing
-pub mod Turning
-pub mod Alike
-pub mod Sides
 pub mod Leading

@@ -1,3 +1,2 @@
--- Open rows, and what walks tell of them.
-pub mod Open
+-- What a list lacks, and what is known of its rows.
 pub mod Leading

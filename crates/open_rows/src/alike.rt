@@ -4,13 +4,13 @@ ghost use Rattle.automata.specs.Successors.{edge-rows};
 ghost use Rattle.regions.specs.Values.{bounds-of, edge-of};
 ghost use Rattle.skylines.specs.Alike.{ReadsNone};
 ghost use Rattle.listed_rows.specs.Located.{RowsIn};
-ghost use Rattle.open_rows.specs.Open.{Inside, FirstOpen};
-ghost use Rattle.open_rows.specs.Leading.{Suited, Stretch};
-use crate::walking::leads_from;
+ghost use Rattle.walked_rows.specs.Open.{Inside, FirstOpen};
+ghost use Rattle.walked_rows.specs.Leading.{Suited, Stretch};
 use listed_rows::listed::Span;
-use listed_rows::listed::row_at;
 use regions::edge::Edge;
 use regions::region::Clocks;
+use walked_rows::guarded::first_guarded;
+use walked_rows::walking::leads_from;
 
 // The first row from start to before end from which the edge leads out of the list, or end, if it reads no clock: it leads to the same regions from all rows
 // that it can be taken from, so it is walked from the first of these.
@@ -29,18 +29,13 @@ pub fn first_alike(
     requires { ⌜ ReadsNone (clocks .count) (edge-of (clocks .count) e) ⌝ }
     ensures { λ r. ⌜ FirstOpen (Inside (edge-rows (bounds-of clocks) (edge-of (clocks .count) e)) (clocks .count) (now (list .entry)) count) start end r ⌝ }
 {
-    let n = clocks.count as usize;
-    let mut i = start;
-    while i < end {
-        let row = row_at(list, n, i);
-        if row.guards_hold(clocks, e) {
-            let found = leads_from(list, clocks, count, e, into, i, 2 * count);
-            if found.listed {
-                return end;
-            }
-            return i;
-        }
-        i += 1;
+    let i = first_guarded(list, clocks, count, e, start, end);
+    if end <= i {
+        return end;
     }
-    end
+    let found = leads_from(list, clocks, count, e, into, i, 2 * count);
+    if found.listed {
+        return end;
+    }
+    i
 }

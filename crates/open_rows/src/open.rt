@@ -5,7 +5,7 @@ ghost use Rattle.automata.specs.Next.{next-rows};
 ghost use Rattle.table_files.specs.Admission.{table-of};
 ghost use Rattle.tables.specs.Values.{Describes};
 ghost use Rattle.listed_rows.specs.Listed.{listed-rows, Listed};
-ghost use Rattle.open_rows.specs.Open.{Inside, FirstOpen};
+ghost use Rattle.walked_rows.specs.Open.{Inside, FirstOpen};
 use crate::leading::first_by_edges;
 use crate::waiting::first_by_waiting;
 use table_records::head::Head;

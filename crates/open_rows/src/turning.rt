@@ -2,99 +2,17 @@
 // all, and then from few of those before one from which it leads out.
 ghost use mathlib.Core.Path.{_≡_};
 ghost use Prim.Native.Nat.{ℕ, _≤_, _<_, min};
-ghost use lib.ListN.{length};
 ghost use Rattle.automata.specs.Successors.{edge-rows};
 ghost use Rattle.regions.specs.Values.{bounds-of, edge-of};
 ghost use Rattle.listed_rows.specs.Located.{RowsIn};
-ghost use Rattle.open_rows.specs.Open.{Inside, FirstOpen, SomeOpen};
-ghost use Rattle.open_rows.specs.Leading.{Suited, Stretch, Grouped};
+ghost use Rattle.walked_rows.specs.Open.{Inside, FirstOpen};
+ghost use Rattle.walked_rows.specs.Leading.{Suited, Stretch};
 use crate::tracing::traced;
-use crate::walking::least_chosen;
-use crate::walking::least_held;
 use listed_rows::listed::Span;
 use listed_rows::listed::location_at;
 use regions::edge::Edge;
 use regions::region::Clocks;
-use selection::choosing::choose;
-use selection::grouping::has_groups;
-use selection::grouping::lodge_all;
-
-// A row from start to before end from which the edge leads out of the list, or end: of rows that are not taken one or two of each group are walked from, as
-// far as groups find slots. Then all rows are taken that one of these covers.
-fn open_in_groups(
-    list: &[u8],
-    clocks: Clocks,
-    count: usize,
-    e: Edge,
-    into: Span,
-    start: usize,
-    end: usize,
-    taken: &mut [bool],
-) -> usize
-    requires { ⌜ Suited clocks (now list) count e ⌝ }
-    requires { ⌜ RowsIn (clocks .count) (now list) count (e .target) (into .start) (into .end) ⌝ }
-    requires { ⌜ Stretch (clocks .count) (now list) count (e .source) start end ⌝ }
-    requires { ⌜ length (now taken) ≡ 4096 ⌝ }
-    ensures { λ r. ⌜ Grouped (bounds-of clocks) (edge-of (clocks .count) e) (clocks .count) (now (list .entry)) count start end (now (taken .entry)) (now (taken .exit)) r ⌝ }
-{
-    if !has_groups(clocks, e) {
-        return end;
-    }
-    let mut slots = [0u16; 1024];
-    lodge_all(list, clocks, count, e, start, end, taken, &mut slots);
-    // once more: what a slot holds now may lead further than rows that were offered before it
-    lodge_all(list, clocks, count, e, start, end, taken, &mut slots);
-    least_held(list, clocks, count, e, into, &slots, end)
-}
-
-// A row from start to before end from which the edge leads out of the list, or end. It is walked only from rows that it leads furthest from: one or two of
-// each group, and others of the same groups, then as many of what is left as there is room for. What had to be left out comes the next time.
-fn open_by_walks(
-    list: &[u8],
-    clocks: Clocks,
-    count: usize,
-    e: Edge,
-    into: Span,
-    start: usize,
-    end: usize,
-) -> usize
-    requires { ⌜ Suited clocks (now list) count e ⌝ }
-    requires { ⌜ RowsIn (clocks .count) (now list) count (e .target) (into .start) (into .end) ⌝ }
-    requires { ⌜ Stretch (clocks .count) (now list) count (e .source) start end ⌝ }
-    ensures { λ r. ⌜ SomeOpen (Inside (edge-rows (bounds-of clocks) (edge-of (clocks .count) e)) (clocks .count) (now (list .entry)) count) start end r ⌝ }
-{
-    let none = [0; 9];
-    let mut members = [none; 64];
-    let mut taken = [false; 4096];
-    let mut from = start;
-    while from < end {
-        let held = open_in_groups(list, clocks, count, e, into, from, end, &mut taken[..]);
-        if held < end {
-            return held;
-        }
-        // again, for other rows of the same groups
-        let again = open_in_groups(list, clocks, count, e, into, from, end, &mut taken[..]);
-        if again < end {
-            return again;
-        }
-        let chosen = choose(
-            list,
-            clocks,
-            count,
-            e,
-            from,
-            end,
-            &mut taken[..],
-            &mut members[..],
-        );
-        let open = least_chosen(list, clocks, count, e, into, &members[..], chosen.size, end);
-        if open < end {
-            return open;
-        }
-        from = chosen.next;
-    }
-    end
-}
+use walked_rows::turning::open_by_walks;
 
 // The lesser of two rows.
 fn least(a: usize, b: usize) -> usize

@@ -6,7 +6,7 @@ ghost use Rattle.automata.specs.Successors.{wait-rows};
 ghost use Rattle.automata.specs.Checks.{every, has};
 ghost use Rattle.regions.specs.Values.{bounds-of, row-of};
 ghost use Rattle.listed_rows.specs.Listed.{listed-rows, Listed};
-ghost use Rattle.open_rows.specs.Open.{Inside, FirstOpen};
+ghost use Rattle.walked_rows.specs.Open.{Inside, FirstOpen};
 use listed_rows::listed::find;
 use listed_rows::listed::row_at;
 use regions::region::Clocks;

@@ -16,6 +16,7 @@ pub struct Clocks {
 }
 
 // From the clocks' count on, intervals and ranks are 0, so that equal rows are equal values.
+#[repr(C)]
 pub struct Region {
     pub location: u8,
     pub intervals: [u16; 4],

@@ -142,7 +142,7 @@ module _ (T : Table) (admitted : Admitted T) where
       follow : (r r′ : Row) → Mem r rows → Next T r r′ → Mem r′ rows
       follow r r′ m n = into r′ (g .closed r r′ (out r m) (next-rows-law T admitted r r′ (row-of r (out r m)) .1 n))
 
-  reached-by : (r : Row) → Met T r → final T (r .location) ≡ true → Reached T
+  pub reached-by : (r : Row) → Met T r → final T (r .location) ≡ true → Reached T
   reached-by r g f = record {
     D = g .D;
     positive = g .holds .positive;

@@ -1,7 +1,7 @@
 -- The main theorems, each stated whole. Assumes nothing.
 use Prim.Native.Nat.{ℕ, _*_, _≤_, _<_}
 use mathlib.Core.Path.{_≡_}
-use mathlib.Core.Bool.{true}
+use mathlib.Core.Bool.{true, false}
 use mathlib.Core.Logic.{_⊎_, _↔_}
 use mathlib.Core.Option.{none, some}
 use mathlib.Core.List.{List, map}
@@ -19,6 +19,7 @@ use Rattle.automata.specs.Successors.{guardsb, leadsb, wait-rows, edge-r
 use Rattle.automata.specs.Next.{TimeSuccessor, EdgeSuccessor, Next, time-successors, edge-successors, next-rows}
 use Rattle.automata.specs.Checks.{closedb}
 use Rattle.automata.specs.Meeting.{Met, Successive}
+use Rattle.automata.specs.Kept.{kept, enters, Kept, Entered}
 use Rattle.automata.proofs.Laws.Comparison
 use Rattle.automata.proofs.Laws.Scale
 use Rattle.automata.proofs.Laws.Waiting
@@ -33,6 +34,7 @@ use Rattle.automata.proofs.Laws.Next as Due
 use Rattle.automata.proofs.Laws.Checks
 use Rattle.automata.proofs.Laws.Sound
 use Rattle.automata.proofs.Laws.Complete
+use Rattle.automata.proofs.Laws.Kept as Keeping
 
 -- tables ------------------------------------------------------------------------------------------------------------------------
 
@@ -64,6 +66,44 @@ run-scaling = Finer.run-scaled
 -- whether a list of rows is closed is decided by a test that computes
 pub closed-law : (T : Table) → Admitted T → (rows : List Row) → (closedb T rows ≡ true) ↔ Closed T rows
 closed-law = Checks.closed-law
+
+-- lists made from a table ---------------------------------------------------------------------------------------------------------
+
+-- the kept rows ascend
+pub kept-ascends : (T : Table) → Ascends (kept T)
+kept-ascends = Keeping.kept-ascends
+
+-- next rows lead to them from the initial one through rows outside final locations, and to no other row, if they are at most 4,096
+pub kept-sound : (T : Table) (r : Row) → Mem r (kept T) → Kept T r
+kept-sound = Keeping.kept-sound
+
+pub kept-complete : (T : Table) → length (kept T) ≤ 4096 → (r : Row) → Kept T r → Mem r (kept T)
+kept-complete = Keeping.kept-complete
+
+-- no other ascending list has just those rows
+pub kept-is : (T : Table) (rows : List Row) → Ascends rows → ((r : Row) → Mem r rows → Kept T r) → ((r : Row) → Kept T r → Mem r rows) → length rows ≤ 4096
+    → kept T ≡ rows
+kept-is = Keeping.kept-is
+
+-- no ascending list of such rows is longer, unless theirs is longer than 4,096
+pub kept-most : (T : Table) (rows : List Row) → Ascends rows → ((r : Row) → Mem r rows → Kept T r) → (length rows ≤ length (kept T)) ⊎ (4096 < length (kept T))
+kept-most = Keeping.kept-most
+
+-- a run comes to each of them
+pub kept-met : (T : Table) → Admitted T → {r : Row} → Kept T r → Met T r
+kept-met = Keeping.kept-met
+
+-- where a final location is entered, some run ends in one
+pub entered-reached : (T : Table) → Admitted T → Entered T → Reached T
+entered-reached = Keeping.entered-reached
+
+-- where none is, the kept rows are a closed list
+pub kept-closed : (T : Table) → Admitted T → length (kept T) ≤ 4096 → enters T (kept T) ≡ false → Closed T (kept T)
+kept-closed = Keeping.kept-closed
+
+-- so the test for it tells whether some run does
+pub entered-law : (T : Table) → Admitted T → length (kept T) ≤ 4096 → (enters T (kept T) ≡ true) ↔ Reached T
+entered-law = Keeping.entered-law
 
 -- points and rows ---------------------------------------------------------------------------------------------------------------
 

@@ -2,14 +2,15 @@
 use Prim.Native.Nat.{ℕ, _*_, _≤_, _<_}
 use mathlib.Core.Path.{_≡_}
 use mathlib.Core.Logic.{_⊎_, _↔_}
-use mathlib.Core.List.{List}
-use lib.ListN.{length, take}
+use mathlib.Core.List.{List, _++_}
+use lib.ListN.{length, take, drop, replicate}
 use Rattle.automata.specs.Row.{Row}
 use Rattle.automata.specs.Point.{Contains, later, scaled}
 use Rattle.automata.specs.Automaton.{Table, Admitted}
 use Rattle.automata.specs.Run.{Reached}
 use Rattle.automata.specs.Next.{TimeSuccessor}
 use Rattle.automata.specs.Closed.{RowOf, Closed, ExactlyOne}
+use Rattle.automata.specs.Kept.{kept}
 use Rattle.table_files.specs.Bytes.{AreBytes}
 use Rattle.table_files.specs.Answer.{Answer, accepted, refused, packed}
 use Rattle.table_files.specs.Admission.{admission, table-of}
@@ -17,6 +18,7 @@ use Rattle.calls.specs.RunFile.{RunList, run-bytes, run-answer}
 use Rattle.calls.specs.RegionFile.{rows-of, row-bytes, rows-bytes, list-bytes, list-answer}
 use Rattle.calls.specs.Program.{printed-line}
 use Rattle.calls.specs.Follow.{followed, follow-answer, follow-buffer}
+use Rattle.calls.specs.Making.{make-answer, make-buffer}
 use Rattle.table_files.specs.Meaning.{Passes, Limits}
 use Rattle.table_files.specs.TableBytes.{TableOf}
 use Rattle.calls.specs.Meaning.{Small, Reaches, RunListOf, RegionListOf, OpenListOf, Follows, Written}
@@ -25,6 +27,7 @@ use Rattle.table_files.proofs.Laws.TableBytes
 use Rattle.calls.proofs.Laws.RegionLists
 use Rattle.calls.proofs.Laws.Runs
 use Rattle.calls.proofs.Laws.Follow
+use Rattle.calls.proofs.Laws.Making as Makes
 use Rattle.calls.proofs.Laws.SmallAnswers
 use Rattle.calls.proofs.Laws.Claims
 use Rattle.calls.proofs.Laws.Prefix
@@ -39,7 +42,15 @@ refusal-keeps = Follow.refusal-keeps
 pub buffer-length : (table row : List ℕ) (number : ℕ) (buffer : List ℕ) → length (follow-buffer table row number buffer) ≡ length buffer
 buffer-length = Follow.buffer-length
 
--- "the first number in document 01's order that applies, with a place": numbers are 1 to 19, and the packed number tells the answer
+-- making a list: "After a refusal here the buffer is all zero, and the rule of untouched memory in the first demand reads so for this call"
+pub make-clears : (table : List ℕ) (records : ℕ) (buffer : List ℕ) (n place : ℕ) → make-answer table (length buffer) records ≡ refused n place
+    → make-buffer table records buffer ≡ replicate (length buffer) 0
+make-clears = Makes.make-clears
+
+pub make-buffer-length : (table : List ℕ) (records : ℕ) (buffer : List ℕ) → length (make-buffer table records buffer) ≡ length buffer
+make-buffer-length = Makes.make-buffer-length
+
+-- "the first number in document 01's order that applies, with a place": numbers are 1 to 21, and the packed number tells the answer
 pub admission-small : (table : List ℕ) → Small (admission table)
 admission-small = SmallAnswers.admission-small
 
@@ -48,6 +59,9 @@ run-small = SmallAnswers.run-small
 
 pub list-small : (table file : List ℕ) → Small (list-answer table file)
 list-small = SmallAnswers.list-small
+
+pub make-small : (table : List ℕ) (room records : ℕ) → Small (make-answer table room records)
+make-small = SmallAnswers.make-small
 
 pub packed-law : (a b : Answer) → Small a → Small b → packed a ≡ packed b → a ≡ b
 packed-law = SmallAnswers.packed-law
@@ -65,6 +79,12 @@ list-prefix = Prefix.list-prefix
 pub follow-prefix : (n : ℕ) → 11 < n → (table row : List ℕ) (number : ℕ) (buffer : List ℕ)
     → (follow-answer table (take n row) number buffer ≡ follow-answer table row number buffer) × (follow-buffer table (take n row) number buffer ≡ follow-buffer table row number buffer)
 follow-prefix = Prefix.follow-prefix
+
+pub make-prefix : (n : ℕ) → 12747 < n → (table : List ℕ) (room records : ℕ) → make-answer (take n table) room records ≡ make-answer table room records
+make-prefix = Prefix.make-prefix
+
+pub make-buffer-prefix : (n : ℕ) → 12747 < n → (table : List ℕ) (records : ℕ) (buffer : List ℕ) → make-buffer (take n table) records buffer ≡ make-buffer table records buffer
+make-buffer-prefix = Prefix.make-buffer-prefix
 
 -- so many bytes of both files tell what is printed
 pub printed-prefix : (table file : List ℕ) → printed-line (take 65536 table) (take 65536 file) ≡ printed-line table file
@@ -145,3 +165,38 @@ closed-accepted = Claims.closed-accepted
 -- an accepted run list shows the first of the two
 pub run-reached : (table file : List ℕ) (k : ℕ) → run-answer table file ≡ accepted k → Reached (table-of table)
 run-reached = Runs.run-reached
+
+-- lists made from a table ------------------------------------------------------------------------------------------------------
+
+-- the bytes that the finished list takes
+abbrev pub list-made : List ℕ → ℕ → List ℕ → List ℕ
+list-made = Makes.list-made
+
+-- an accepted call leaves the file of a closed list of so many rows, which the check accepts, and no run ends in a final location
+pub make-accepts : (table : List ℕ) (records : ℕ) (buffer : List ℕ) (k : ℕ) → make-answer table (length buffer) records ≡ accepted k
+    → Passes table
+    × RegionListOf (table-of table) (list-made table records buffer) k
+    × (list-answer table (list-made table records buffer) ≡ accepted k)
+    × (Reached (table-of table) → ⊥)
+make-accepts = Makes.make-accepts
+
+-- it stands first in the buffer, and "later buffer bytes stay"
+pub make-writes : (table : List ℕ) (records : ℕ) (buffer : List ℕ) (k : ℕ) → make-answer table (length buffer) records ≡ accepted k
+    → AreBytes (list-made table records buffer)
+    × (make-buffer table records buffer ≡ list-made table records buffer ++ drop (length (list-made table records buffer)) buffer)
+make-writes = Makes.make-writes
+
+-- 21 is given where some run does
+pub make-reached : (table : List ℕ) (room records place : ℕ) → make-answer table room records ≡ refused 21 place → Reached (table-of table)
+make-reached = Makes.make-reached
+
+-- and wherever one does, if "the kept rows exceed 4,096, the buffer can't hold the finished list or the waiting list is too short" isn't so
+pub make-finds : (table : List ℕ) → Passes table → (room records : ℕ) → Makes.Fits (table-of table) room records → Reached (table-of table)
+    → make-answer table room records ≡ refused 21 0
+make-finds = Makes.make-finds
+
+-- where a closed list has at most 4,096 rows and its file fits, a list of no more rows is made
+pub make-succeeds : (table : List ℕ) → Passes table → (rows : List Row) → Closed (table-of table) rows → length rows ≤ 4096
+    → (room records : ℕ) → length (list-bytes rows) ≤ room → 4096 ≤ records
+    → (make-answer table room records ≡ accepted (length (kept (table-of table)))) × (length (kept (table-of table)) ≤ length rows)
+make-succeeds = Makes.make-succeeds

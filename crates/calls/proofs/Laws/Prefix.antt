@@ -21,6 +21,7 @@ use Rattle.table_files.specs.Admission.{admitted, admission}
 use Rattle.calls.specs.RunFile.{RunList, step-record, run-file, run-checked, run-answer}
 use Rattle.calls.specs.RegionFile.{row-width, row-record, region-file, list-checked, list-answer}
 use Rattle.calls.specs.Follow.{rows-followed, following, follow-answer, written, follow-buffer}
+use Rattle.calls.specs.Making.{rows-made, making, make-answer, made-in, make-buffer}
 use Rattle.calls.specs.Program.{printed, line-for, printed-line}
 use Rattle.table_files.proofs.Laws.Reading.{not-good, parts, between-law}
 use Rattle.table_files.proofs.Laws.Tables.{HeaderIn, header-in}
@@ -185,6 +186,15 @@ admitted-prefix n l file = settled-take admitted 12747 n settled-admitted l file
 pub admission-prefix : (n : ℕ) → 12747 < n → (file : List ℕ) → admission (take n file) ≡ admission file
 unfolding admission
 admission-prefix n l file = rw (admitted-prefix n l file)
+
+-- and what list is made from it
+pub make-prefix : (n : ℕ) → 12747 < n → (table : List ℕ) (room records : ℕ) → make-answer (take n table) room records ≡ make-answer table room records
+unfolding make-answer making
+make-prefix n l table room records = ap (λ (r : Read Table). answered length (carry r (λ T _. rows-made T room records []))) (admitted-prefix n l table)
+
+pub make-buffer-prefix : (n : ℕ) → 12747 < n → (table : List ℕ) (records : ℕ) (buffer : List ℕ) → make-buffer (take n table) records buffer ≡ make-buffer table records buffer
+unfolding make-buffer making
+make-buffer-prefix n l table records buffer = ap (λ (r : Read Table). made-in (carry r (λ T _. rows-made T (length buffer) records [])) buffer) (admitted-prefix n l table)
 
 -- the paper ------------------------------------------------------------------------------------------------------------------
 

@@ -18,6 +18,7 @@ use Rattle.table_files.specs.TableFile.{header, location, edge-record, table-fi
 use Rattle.table_files.specs.Admission.{edges-bounded, admitted}
 use Rattle.calls.specs.RunFile.{step-record, run-file, steps-taken, run-checked}
 use Rattle.calls.specs.RegionFile.{row-record, region-file, ascending, none-final, none-open, list-checked}
+use Rattle.calls.specs.Making.{rows-made}
 use Rattle.table_files.specs.Meaning.{Limits}
 use Rattle.table_files.proofs.Laws.Reading.{not-refused}
 use Rattle.table_files.proofs.Laws.Tables.{HeaderIn, header-in, table-in}
@@ -217,3 +218,10 @@ module _ {top : ℕ} (T : Table) (seventeen : 17 ≤ top) where
       tame-then _ _ (tame-ascending T sixteen 1 rows (omega arith)) (λ _ _ _ _.
       tame-then _ _ (tame-none-final T sixteen 1 rows (omega arith)) (λ _ _ _ _.
       tame-test _ _ _ _ (omega arith) (λ _. tame-then _ _ (tame-none-open rows _ _ (omega arith)) (λ _ _ _ _. tame-done rows)))))
+
+-- making a list ----------------------------------------------------------------------------------------------------------------
+
+module _ {top : ℕ} (T : Table) (all : 21 ≤ top) where
+  pub tame-made : (room records : ℕ) → Tame (rows-made T room records) top 4097
+  unfolding rows-made
+  tame-made room records = tame-test _ _ _ _ (omega arith) (λ _. tame-test _ _ _ _ (omega arith) (λ _. tame-done _))

@@ -2,7 +2,7 @@
 use Prim.Native.Nat.{ℕ, _≤_}
 use native.Mathlib.Omega.{arith}
 use mathlib.Core.Path.{_≡_, refl}
-use mathlib.Core.List.{List}
+use mathlib.Core.List.{List, []}
 use lib.ListN.{length}
 use Rattle.automata.specs.Automaton.{Table}
 use Rattle.table_files.specs.Answer.{Answer, accepted, refused, refusals, packed}
@@ -10,12 +10,14 @@ use Rattle.table_files.specs.Reading.{Read, good, bad, carry, answered}
 use Rattle.table_files.specs.Admission.{admitted, record-count, admission}
 use Rattle.calls.specs.RunFile.{RunList, run-checked, run-answer}
 use Rattle.calls.specs.RegionFile.{list-checked, list-answer}
+use Rattle.calls.specs.Making.{rows-made, making, make-answer}
 use Rattle.table_files.specs.Meaning.{Limits}
 use Rattle.calls.specs.Meaning.{Small}
 use Rattle.table_files.proofs.Laws.Admission.{read-limits}
-use Rattle.calls.proofs.Laws.Refusals.{Slight, slight, answered-bad, tame-admitted, tame-run, tame-list}
+use Rattle.calls.proofs.Laws.Refusals.{Slight, slight, answered-bad, tame-admitted, tame-run, tame-list, tame-made}
 use Rattle.calls.proofs.Laws.Runs.{run-few}
 use Rattle.calls.proofs.Laws.RegionLists.{list-few}
+use Rattle.calls.proofs.Laws.Making.{make-few}
 
 pub admission-small : (table : List ℕ) → Small (admission table)
 unfolding admission
@@ -49,6 +51,10 @@ run-small table file = small (λ (r : RunList). length (r .moves)) table (λ T. 
 pub list-small : (table file : List ℕ) → Small (list-answer table file)
 unfolding list-answer
 list-small table file = small length table (λ T. list-checked T file) (λ T. tame-list {top = refusals} T (omega arith) .slight′ file) (list-few table file)
+
+pub make-small : (table : List ℕ) (room records : ℕ) → Small (make-answer table room records)
+unfolding make-answer making
+make-small table room records = small length table (λ T. rows-made T room records []) (λ T. tame-made {top = refusals} T (omega arith) room records .slight′ []) (make-few table room records)
 
 -- the packed number tells the answer
 pub packed-law : (a b : Answer) → Small a → Small b → packed a ≡ packed b → a ≡ b

@@ -18,7 +18,7 @@ use Rattle.skylines.specs.Skyline.{member}
 use Rattle.listed_rows.specs.Listed.{listed-row, listed-rows}
 use Rattle.selection.specs.Chosen.{Sits, taken-at}
 use Rattle.selection.proofs.Laws.Choosing.{none-taken, sits-own, further}
-use Rattle.open_rows.specs.Open.{Inside}
+use Rattle.walked_rows.specs.Open.{Inside}
 use Rattle.open_rows.specs.Leading.{Known}
 
 module _ (c : List ℕ) (e : Edge) (n : ℕ) (list : List ℕ) (count : ℕ) where

@@ -26,9 +26,10 @@ use Rattle.tables.specs.Values.{Describes}
 use Rattle.listed_rows.specs.Listed.{listed-row, listed-rows}
 use Rattle.listed_rows.specs.Located.{RowsIn}
 use Rattle.listed_rows.proofs.Laws.Located.{between}
-use Rattle.open_rows.specs.Open.{Inside, FirstOpen}
-use Rattle.open_rows.specs.Leading.{Stretch}
-use Rattle.open_rows.proofs.Laws.Open.{first-none, first-as, first-then, first-within}
+use Rattle.walked_rows.specs.Open.{Inside, FirstOpen}
+use Rattle.walked_rows.specs.Leading.{Stretch}
+use Rattle.walked_rows.proofs.Laws.Open.{first-none, first-as, first-then}
+use Rattle.open_rows.proofs.Laws.Open.{first-within}
 
 -- whether all of some rows are in the list
 all-listed : (rows xs : List Row) → (every (has rows) xs ≡ true) ↔ ((x : Row) → Mem x xs → Mem x rows)

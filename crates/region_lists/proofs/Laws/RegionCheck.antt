@@ -31,7 +31,7 @@ use Rattle.calls.proofs.Laws.Open.{full, full-passes, least-refused}
 use Rattle.calls.proofs.Laws.RegionLists.{ascends}
 use Rattle.listed_rows.specs.Listed.{listed-row, listed-rows, Listed}
 use Rattle.listed_rows.proofs.Laws.Listed.{listed-length, listed-at, listed-in, in-listed}
-use Rattle.open_rows.specs.Open.{Inside, FirstOpen}
+use Rattle.walked_rows.specs.Open.{Inside, FirstOpen}
 use Rattle.region_lists.specs.RegionList.{Told, passed}
 use Rattle.region_lists.proofs.Laws.ListRecords.{was-good, all-there}
 use Rattle.region_lists.proofs.Laws.ListOrder.{passed-at}

@@ -1,5 +1,5 @@
 use Rattle.open_rows.proofs.Laws.Leading.{EdgesInside, edges-begin, edges-on, edges-all, edge-bounded, edge-rule}
-use Rattle.open_rows.specs.Open.{FirstOpen}
+use Rattle.walked_rows.specs.Open.{FirstOpen}
 use Rattle.tables.proofs.Laws.Described.{edge-stands, edge-says}
 use Rattle.tables.specs.Bounds.{edge-start}
 use Rattle.table_records.proofs.Laws.Skips.{skip-none, skip-one}

@@ -1,16 +1,15 @@
 use Prim.Native.Nat.{ℕ, _≤_}
-use mathlib.Core.Path.{sym, ap, subst, _∙_}
+use mathlib.Core.Path.{sym, subst, _∙_}
 use mathlib.Core.Logic.{⊎-elim}
 use Rattle.automata.specs.Edge.{Edge}
-use Rattle.skylines.proofs.Laws.Sides.{sided-bounded}
 use Rattle.listed_rows.specs.Located.{RowsIn}
-use Rattle.open_rows.specs.Leading.{Stretch}
-use Rattle.open_rows.specs.Open.{FirstOpen}
-use Rattle.open_rows.proofs.Laws.Sides.{sided-ends, SidesInside, sides-begin, sides-on, sides-pass, sides-all}
+use Rattle.walked_rows.specs.Leading.{Stretch}
+use Rattle.walked_rows.specs.Open.{FirstOpen}
+use Rattle.walked_rows.proofs.Laws.Sides.{side-source, side-target, side-suited, SidesInside, sides-begin, sides-on, sides-pass, sides-all}
 use Prim.Native.Nat.{_-_}
 use native.Mathlib.Omega.{arith}
 use denote.Ref.{now}
-use Rattle.open_rows.specs.Open.{Inside}
+use Rattle.walked_rows.specs.Open.{Inside}
 use Rattle.automata.specs.Successors.{edge-rows}
 use Rattle.regions.specs.Values.{bounds-of, edge-of}
 use borrow.Author.Needs.{needs}
@@ -42,7 +41,7 @@ with-sides-requires c κs = search needs
 
 -- src/leading.rt:50:13
 first-by-walks-requires : tie.Need-first-by-walks-requires Inv-loop μ-loop
-first-by-walks-requires c κs = let a = c .before .before .before .before .before .before .args in let p = c .before .before .before .before .before .before .pre in let n = a .clocks .count in let e = edge-of n (a .e) in let cs = bounds-of (a .clocks) in let list = now (a .list) in let v = c .before .before .before .before .loop .inv in let j = c .before .before .before .before .loop .k in let m = c .with-sides .ensures .0 in let q = sided-ends n e j in let l = p .1 .1 in (record { listed = p .0 .listed; ascends = p .0 .ascends; few-guards = omega (arith, c .with-sides .ensures .1, p .0 .few-guards); bounded = rw m (rw (p .0 .listed .sized) at (sided-bounded cs e (p .0 .bounded) j)) }, (subst (λ (l : ℕ). RowsIn n list (a .count) l (a .into .start) (a .into .end)) (sym (ap (λ (d : Edge). d .target) m ∙ q .1)) (p .1 .0), subst (λ (l : ℕ). Stretch n list (a .count) l (a .start) (c .before .before .before .before .loop .first)) (sym (ap (λ (d : Edge). d .source) m ∙ q .0)) (record { from = v .1 .from; within = omega (arith, v .1 .to, l .within); all = λ i h g. l .all i h (omega (arith, v .1 .to)) })))
+first-by-walks-requires c κs = let a = c .before .before .before .before .before .before .args in let p = c .before .before .before .before .before .before .pre in let n = a .clocks .count in let e = edge-of n (a .e) in let cs = bounds-of (a .clocks) in let list = now (a .list) in let v = c .before .before .before .before .loop .inv in let j = c .before .before .before .before .loop .k in let d = c .with-sides .result in let m = c .with-sides .ensures .0 in let l = p .1 .1 in (side-suited (a .clocks) (a .e) d j m list (a .count) (c .with-sides .ensures .1) (p .0), (subst (λ (l : ℕ). RowsIn n list (a .count) l (a .into .start) (a .into .end)) (sym (side-target (a .clocks) (a .e) d j m)) (p .1 .0), subst (λ (l : ℕ). Stretch n list (a .count) l (a .start) (c .before .before .before .before .loop .first)) (sym (side-source (a .clocks) (a .e) d j m)) (record { from = v .1 .from; within = omega (arith, v .1 .to, l .within); all = λ i h g. l .all i h (omega (arith, v .1 .to)) })))
 
 -- src/leading.rt:52:9
 add-k : tie.Need-add-k Inv-loop μ-loop
@@ -58,7 +57,7 @@ loop-again c = let a = c .before .before .before .before .before .args in let p 
 
 -- src/leading.rt:31:1
 returns : tie.Need-returns Inv-loop μ-loop
-returns c = let a = c .before .before .before .args in let p = c .before .before .before .pre in let n = a .clocks .count in let e = edge-of n (a .e) in let cs = bounds-of (a .clocks) in let list = now (a .list) in let v = c .before .loop .inv in sides-all cs e n list (a .count) (a .start) (a .end) _ _ (v .1) (p .0 .listed .sized) (p .0 .listed .few .few) (p .0 .bounded) (p .0 .listed .are-rows) (p .1 .1 .within) (omega (arith, c .loop-test .left)) (v .0)
+returns c = let a = c .before .before .before .args in let p = c .before .before .before .pre in let n = a .clocks .count in let e = edge-of n (a .e) in let cs = bounds-of (a .clocks) in let list = now (a .list) in let v = c .before .loop .inv in sides-all cs e n list (a .count) (a .start) (a .end) (p .0 .listed .sized) (p .0 .listed .few .few) (p .0 .bounded) (p .0 .listed .are-rows) (p .1 .1 .within) _ _ (v .1) (omega (arith, c .loop-test .left)) (v .0)
 
 pub first-by-sides-spec : {M : Type 1} → statement M
 first-by-sides-spec =

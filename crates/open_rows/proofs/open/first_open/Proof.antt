@@ -2,7 +2,7 @@ use Prim.Native.Nat.{ℕ}
 use mathlib.Core.List.{List}
 use mathlib.Core.Path.{subst}
 use Rattle.open_rows.proofs.Laws.Leading.{first-of-both}
-use Rattle.open_rows.specs.Open.{Inside, FirstOpen}
+use Rattle.walked_rows.specs.Open.{Inside, FirstOpen}
 use Rattle.automata.specs.Successors.{wait-rows}
 use Rattle.table_files.specs.Admission.{table-of}
 use denote.Ref.{now}

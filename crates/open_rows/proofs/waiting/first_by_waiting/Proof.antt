@@ -3,8 +3,8 @@ use Prim.Native.Nat.{_-_}
 use native.Mathlib.Omega.{arith}
 use denote.Ref.{now}
 use borrow.Author.Tests.{not-true, not-false}
-use Rattle.open_rows.proofs.Laws.Open.{HoldsTo, holds-none, holds-on, holds-not, holds-all}
-use Rattle.open_rows.specs.Open.{Inside}
+use Rattle.walked_rows.proofs.Laws.Open.{HoldsTo, holds-none, holds-on, holds-not, holds-all}
+use Rattle.walked_rows.specs.Open.{Inside}
 use Rattle.listed_rows.proofs.Laws.Listed.{row-room, listed-again}
 use Rattle.listed_rows.specs.Listed.{listed-rows}
 use Rattle.automata.proofs.Laws.Tests.{never}

@@ -1,0 +1,2 @@
+-- What is found of a row's next rows.
+pub mod New

@@ -1,0 +1,3 @@
+-- Open rows, and what walks tell of them.
+pub mod Open
+pub mod Leading
