@@ -98,7 +98,7 @@ refusals | cut -d ' ' -f 1,2 > "$room/a"
 sed -nE 's/^ *pub const ([A-Z_]+): u8 = ([0-9]+);/\2 \1/p' tester/src/answer.rs > "$room/constants"
 head -n 17 "$room/constants" > "$room/b"
 same 'names of host/tzelmaruf.h (<) and of tester/src/answer.rs (>)'
-is 'numbers in tester/src/answer.rs' "$(seq -s ' ' 19)" "$(cut -d ' ' -f 1 "$room/constants" | xargs)"
+is 'numbers in tester/src/answer.rs' "$(seq -s ' ' 21)" "$(cut -d ' ' -f 1 "$room/constants" | xargs)"
 is 'numbers in README.md' "$(seq -s ' ' 19)" "$(sed -nE 's/^\| ([0-9]+) \|.*/\1/p' README.md | xargs)"
 # the words of each name, written once more by hand
 refusals | cut -d ' ' -f 2- | sort > "$room/a"

@@ -1,7 +1,7 @@
 //! What a call answers: accepted with a count, or refused with number and place.
 
-/// The refusal numbers by the names of `host/tzelmaruf.h`; the last two are
-/// following's, which has no function there.
+/// The refusal numbers by the names of `host/tzelmaruf.h`, but for 18 and 19:
+/// these are following's, which has no function there.
 pub mod number {
     pub const TABLE_CUT: u8 = 1;
     pub const HEADER_RANGE: u8 = 2;
@@ -22,6 +22,8 @@ pub mod number {
     pub const NEXT_ROW_MISSING: u8 = 17;
     pub const NOT_A_NUMBER_TO_FOLLOW: u8 = 18;
     pub const BUFFER_SHORT: u8 = 19;
+    pub const NO_ROOM: u8 = 20;
+    pub const FINAL_ENTERED: u8 = 21;
 }
 
 /// Why a file is refused, and at which record.

@@ -1,4 +1,4 @@
-//! The four calls, and one input of a call: made at random, put to both sides,
+//! The five calls, and one input of a call: made at random, put to both sides,
 //! written to a file and read back.
 
 use crate::answer::hex;
@@ -6,10 +6,13 @@ use crate::automaton::Comparison;
 use crate::compare::{self, Compared};
 use crate::format::parse_table;
 use crate::generate::damage::damage;
-use crate::generate::{admit_case, follow_case, regions_case, run_case, PairCase, Random};
+use crate::generate::{admit_case, follow_case, make_case, regions_case, run_case};
+use crate::generate::{PairCase, Random, WaitingList};
 use crate::library::REFUSED;
-use crate::rooms::{Rooms, Side};
-use crate::tally::{OF_ADMISSION, OF_FOLLOWING, OF_REGIONS, OF_RUNS};
+use crate::make::Row;
+use crate::rooms::{Outcome, Rooms, Side};
+use crate::tally::{OF_ADMISSION, OF_FOLLOWING, OF_MAKING, OF_REGIONS, OF_RUNS};
+use std::str::FromStr;
 
 #[derive(Clone, Copy, Debug, PartialEq, Eq)]
 pub enum Call {
@@ -17,10 +20,19 @@ pub enum Call {
     Run,
     Regions,
     Following,
+    Making,
 }
 
 impl Call {
-    pub const ALL: [Call; 4] = [Call::Admission, Call::Run, Call::Regions, Call::Following];
+    /// Those that can be compared; making is one of them with its feature alone.
+    pub const ALL: &'static [Call] = &[
+        Call::Admission,
+        Call::Run,
+        Call::Regions,
+        Call::Following,
+        #[cfg(feature = "making")]
+        Call::Making,
+    ];
 
     pub fn name(self) -> &'static str {
         match self {
@@ -28,11 +40,13 @@ impl Call {
             Call::Run => "run-list",
             Call::Regions => "region-list",
             Call::Following => "following",
+            Call::Making => "making",
         }
     }
 
     pub fn named(name: &str) -> Option<Call> {
-        Call::ALL.into_iter().find(|call| call.name() == name)
+        let mut all = Call::ALL.iter().copied();
+        all.find(|call| call.name() == name)
     }
 
     /// The numbers it may answer; 0 stands for acceptance.
@@ -42,22 +56,23 @@ impl Call {
             Call::Run => OF_RUNS,
             Call::Regions => OF_REGIONS,
             Call::Following => OF_FOLLOWING,
+            Call::Making => OF_MAKING,
         }
     }
 
     /// Those of them that can have several places in one file.
     pub fn with_places(self) -> &'static [u8] {
         match self {
-            // A row to follow is record 0, so its refusals have one place.
-            Call::Admission | Call::Following => &[1, 3, 5, 6],
+            // A row to follow is record 0, so its refusals have one place, as making's own have.
+            Call::Admission | Call::Following | Call::Making => &[1, 3, 5, 6],
             Call::Run => &[1, 3, 5, 6, 7, 8, 10, 11, 12],
             Call::Regions => &[1, 3, 5, 6, 7, 8, 14, 15, 17],
         }
     }
 }
 
-/// What is given to a call. Admission has no second file, and only following
-/// has a number and a buffer.
+/// What is given to a call. Admission and making have no second file, only following
+/// has a number, only following and making have a buffer, and only making a waiting list.
 #[derive(Clone, Debug, PartialEq, Eq)]
 pub struct Input {
     pub call: Call,
@@ -65,6 +80,7 @@ pub struct Input {
     pub second: Vec<u8>,
     pub number: u16,
     pub buffer: Vec<u8>,
+    pub waiting: WaitingList,
 }
 
 /// One table in so many may be of any size.
@@ -78,6 +94,7 @@ impl Input {
             second,
             number: 0,
             buffer: vec![],
+            waiting: WaitingList::default(),
         }
     }
 
@@ -94,6 +111,7 @@ impl Input {
             Call::Run => Input::of_pair(call, random, run_case),
             Call::Regions => Input::of_pair(call, random, regions_case),
             Call::Following => Input::to_follow(random),
+            Call::Making => Input::to_make(random),
         }
     }
 
@@ -107,16 +125,27 @@ impl Input {
     fn to_follow(random: &mut Random) -> Input {
         let case = follow_case(random, LARGE_ONCE_IN);
         let mut input = Input {
-            call: Call::Following,
-            table: case.table,
-            second: case.row,
             number: case.number,
             buffer: case.buffer,
+            ..Input::of_files(Call::Following, case.table, case.row)
         };
         if random.once_in(2) {
             input.damage(random);
         }
         input
+    }
+
+    fn to_make(random: &mut Random) -> Input {
+        let case = make_case(random, LARGE_ONCE_IN);
+        let table = match random.once_in(12) {
+            true => damage(random, &case.table, &case.buffer),
+            false => case.table,
+        };
+        Input {
+            buffer: case.buffer,
+            waiting: case.waiting,
+            ..Input::of_files(Call::Making, table, vec![])
+        }
     }
 
     /// In half the cases one more damage, seldom to the table, as its refusals hide all others.
@@ -140,11 +169,12 @@ impl Input {
             Call::Run => compare::run(&self.table, &self.second),
             Call::Regions => compare::regions(&self.table, &self.second),
             Call::Following => self.compare_following(),
+            Call::Making => self.compare_making(),
         }
     }
 
     /// The same, and the same answer once more with everything lent beside pages
-    /// that may not be touched.
+    /// that may not be touched; what making leaves behind there is compared too.
     pub fn compare_in(&self, rooms: &mut Rooms, side: Side) -> Compared {
         let met = self.compare()?;
         let outcome = rooms.call(side, self);
@@ -158,7 +188,21 @@ impl Input {
                 outcome.answer, outcome.is_intact
             ));
         }
+        if self.call == Call::Making && !self.is_left_as_due(&outcome) {
+            return Err(format!(
+                "both answer {answer:#x}, but beside a guard page ({side:?}) the checker leaves {}",
+                hex(outcome.buffer)
+            ));
+        }
         Ok(met)
+    }
+
+    /// Whether making left the buffer as the rules do, and the waiting list all zero.
+    pub fn is_left_as_due(&self, outcome: &Outcome) -> bool {
+        let mut expected = self.buffer.clone();
+        let mut waiting = self.waiting.rows();
+        crate::make_list(&self.table, &mut expected, &mut waiting);
+        *outcome.buffer == *expected && outcome.waiting.iter().all(|row| *row == Row::default())
     }
 
     #[cfg(feature = "following")]
@@ -171,15 +215,27 @@ impl Input {
         Err("this tester was built without the feature following".into())
     }
 
-    /// A line for each part, files in hex.
+    #[cfg(feature = "making")]
+    fn compare_making(&self) -> Compared {
+        compare::make(&self.table, &self.buffer, &self.waiting.rows())
+    }
+
+    #[cfg(not(feature = "making"))]
+    fn compare_making(&self) -> Compared {
+        Err("this tester was built without the feature making".into())
+    }
+
+    /// A line for each part, files in hex; of a waiting list its length and the seed of its rubbish.
     pub fn text(&self) -> String {
         format!(
-            "call {}\ntable {}\nsecond {}\nnumber {}\nbuffer {}\n",
+            "call {}\ntable {}\nsecond {}\nnumber {}\nbuffer {}\nwaiting {} {}\n",
             self.call.name(),
             hex(&self.table),
             hex(&self.second),
             self.number,
-            hex(&self.buffer)
+            hex(&self.buffer),
+            self.waiting.records,
+            self.waiting.seed
         )
     }
 
@@ -193,17 +249,26 @@ impl Input {
                 .ok_or(format!("no line '{name}'"))
         };
         let call = part("call")?;
-        let number = part("number")?;
         Ok(Input {
             call: Call::named(call).ok_or(format!("no call '{call}'"))?,
             table: from_hex(part("table")?)?,
             second: from_hex(part("second")?)?,
-            number: number
-                .parse()
-                .map_err(|_| format!("no number '{number}'"))?,
+            number: parsed(part("number")?)?,
             buffer: from_hex(part("buffer")?)?,
+            waiting: waiting_list(part("waiting")?)?,
         })
     }
+}
+
+fn parsed<Number: FromStr>(text: &str) -> Result<Number, String> {
+    text.parse().map_err(|_| format!("no number '{text}'"))
+}
+
+fn waiting_list(text: &str) -> Result<WaitingList, String> {
+    let (records, seed) = text.split_once(' ').ok_or("no two numbers")?;
+    let records = parsed(records)?;
+    let seed = parsed(seed)?;
+    Ok(WaitingList { records, seed })
 }
 
 fn from_hex(text: &str) -> Result<Vec<u8>, String> {

@@ -6,6 +6,8 @@
 
 use crate::answer::{hex, Answer};
 use crate::library;
+#[cfg(feature = "making")]
+use crate::make::Row;
 use crate::tally::{Position, Tally};
 use crate::{check_regions, check_run};
 use std::fmt;
@@ -120,28 +122,44 @@ pub fn regions(table: &[u8], list: &[u8]) -> Compared {
     files.judge(&lent, packed, check_regions(table, list))
 }
 
-/// Bytes before and behind a lent buffer.
-#[cfg(feature = "following")]
+/// Items before and behind what is lent.
+#[cfg(any(feature = "following", feature = "making"))]
 const FENCE: usize = 32;
 
-/// A buffer to lend with bytes before and behind it, to see what is written outside.
-#[cfg(feature = "following")]
+/// A buffer, or a waiting list, to lend with others of its items before and behind it, to see
+/// what is written outside.
+#[cfg(any(feature = "following", feature = "making"))]
 #[derive(Clone, Debug, PartialEq, Eq)]
-pub struct Fenced(Vec<u8>);
+pub struct Fenced<Item = u8>(Vec<Item>);
 
-#[cfg(feature = "following")]
+#[cfg(any(feature = "following", feature = "making"))]
 impl Fenced {
     pub fn new(buffer: &[u8]) -> Self {
         Fenced([&[0x5A; FENCE], buffer, &[0xA5; FENCE]].concat())
     }
+}
 
-    pub fn inside(&mut self) -> &mut [u8] {
+#[cfg(feature = "making")]
+impl Fenced<Row> {
+    pub fn of_rows(rows: &[Row]) -> Self {
+        let row = |byte: u8| Row {
+            location: byte,
+            intervals: [u16::from_be_bytes([byte; 2]); 4],
+            ranks: [byte; 4],
+        };
+        Fenced([&[row(0x5A); FENCE], rows, &[row(0xA5); FENCE]].concat())
+    }
+}
+
+#[cfg(any(feature = "following", feature = "making"))]
+impl<Item: PartialEq> Fenced<Item> {
+    pub fn inside(&mut self) -> &mut [Item] {
         let end = self.0.len() - FENCE;
         &mut self.0[FENCE..end]
     }
 
-    /// Where the two differ, counted from the begin of the buffer.
-    fn difference(&self, other: &Fenced) -> Option<i64> {
+    /// Where the two differ, counted from the begin of what is lent.
+    fn difference(&self, other: &Fenced<Item>) -> Option<i64> {
         let at = self.0.iter().zip(&other.0).position(|(a, b)| a != b)?;
         Some(at as i64 - FENCE as i64)
     }
@@ -177,6 +195,35 @@ pub fn follow(table: &[u8], row: &[u8], number: u16, buffer: &[u8]) -> Compared 
             hex(expected.inside())
         )),
     }
+}
+
+/// Making on both sides, from the same bytes in the buffer and the same waiting list: the answer,
+/// and every byte and every record of them afterwards.
+#[cfg(feature = "making")]
+pub fn make(table: &[u8], buffer: &[u8], waiting: &[Row]) -> Compared {
+    let files = Files { table, second: &[] };
+    let mut lent = files.lend();
+    let (mut filled, mut used) = (Fenced::new(buffer), Fenced::of_rows(waiting));
+    let packed = library::make_list(&mut lent.table, filled.inside(), used.inside());
+    let (mut expected, mut cleared) = (Fenced::new(buffer), Fenced::of_rows(waiting));
+    let rules = crate::make_list(table, expected.inside(), cleared.inside());
+    let met = files.judge(&lent, packed, rules);
+    let (length, records) = (buffer.len(), waiting.len());
+    let lent = format!("buffer of {length} bytes, {records} records");
+    let met = met.map_err(|report| format!("{lent}: {report}"))?;
+    if let Some(at) = filled.difference(&expected) {
+        let (filled, expected) = (hex(filled.inside()), hex(expected.inside()));
+        return Err(format!(
+            "{files}{lent}: both answer {rules:?}, but the buffers differ at byte {at}: the checker leaves {filled}, the rules {expected}"
+        ));
+    }
+    if let Some(at) = used.difference(&cleared) {
+        let found = used.0.get((at + FENCE as i64) as usize);
+        return Err(format!(
+            "{files}{lent}: both answer {rules:?}, but of the waiting list the checker leaves at {at} {found:?}"
+        ));
+    }
+    Ok(met)
 }
 
 /// The form of an answer that following has.
@@ -223,6 +270,17 @@ impl Comparer {
         buffer: &[u8],
     ) -> Met {
         self.note(case, follow(table, row, number, buffer))
+    }
+
+    #[cfg(feature = "making")]
+    pub fn make(
+        &mut self,
+        case: fmt::Arguments,
+        table: &[u8],
+        buffer: &[u8],
+        waiting: &[Row],
+    ) -> Met {
+        self.note(case, make(table, buffer, waiting))
     }
 
     fn note(&mut self, case: fmt::Arguments, compared: Compared) -> Met {

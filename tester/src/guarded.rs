@@ -6,6 +6,7 @@
 
 #![allow(unsafe_code)]
 
+use crate::make::Row;
 use std::cell::Cell;
 use std::ffi::c_void;
 use std::ptr;
@@ -99,6 +100,14 @@ impl Drop for Guarded {
         // Safe: the mapping of `new`, which nothing uses any more.
         unsafe { munmap(self.mapping.cast(), self.room + 2 * PAGE) };
     }
+}
+
+/// Bytes as records of a waiting list, which they have to be whole ones of.
+pub fn as_rows(bytes: &mut [u8]) -> &mut [Row] {
+    // Safe: any bytes are a record.
+    let (before, rows, behind) = unsafe { bytes.align_to_mut() };
+    assert!(before.is_empty() && behind.is_empty(), "no whole records");
+    rows
 }
 
 thread_local! {

@@ -1,5 +1,6 @@
 //! An independent reading of the Tzelmaruf rules: admission of timing tables,
-//! checks of run lists and region lists, and the following of one region.
+//! checks of run lists and region lists, the following of one region, and the
+//! making of a region list.
 //!
 //! It shares no code with the checker it is compared with. Wherever a rule can
 //! be put in two ways, the plain way (by points) is kept beside the fast one
@@ -20,6 +21,7 @@ pub mod format;
 pub mod generate;
 pub mod guarded;
 pub mod library;
+pub mod make;
 pub mod region;
 pub mod region_list;
 pub mod rooms;
@@ -35,6 +37,7 @@ pub use admit::admit;
 pub use answer::{Answer, Refusal};
 pub use automaton::Automaton;
 pub use follow::follow;
+pub use make::make_list;
 pub use region::Region;
 pub use region_list::check_regions;
 pub use run::check_run;

@@ -11,6 +11,9 @@
 
 #![allow(unsafe_code)]
 
+#[cfg(feature = "making")]
+use crate::make::Row;
+
 /// Fails the build of the test that says this if libchecker.a is not there.
 #[macro_export]
 macro_rules! needs_checker {
@@ -71,6 +74,18 @@ functions_of! { "libchecker.a", checker_archive:
     ) -> u32;
 }
 
+#[cfg(feature = "making")]
+functions_of! { "libchecker.a", checker_archive:
+    fn tzelmaruf_make_list(
+        table: *const u8,
+        table_length: usize,
+        buffer: *mut u8,
+        buffer_length: usize,
+        waiting: *mut Row,
+        waiting_count: usize,
+    ) -> u32;
+}
+
 #[cfg(feature = "following")]
 functions_of! { "libprobe.a", probe_archive:
     fn tzelmaruf_follow(
@@ -86,7 +101,7 @@ functions_of! { "libprobe.a", probe_archive:
 
 // Why the calls below are safe: each pointer and length come from a slice that
 // is borrowed for the whole call, the checker keeps no pointer, and any bytes
-// are a legal input.
+// and any rows are a legal input.
 
 /// Admission: the packed answer.
 pub fn admit(table: &mut [u8]) -> u32 {
@@ -119,13 +134,32 @@ pub fn check_regions(table: &mut [u8], list: &mut [u8]) -> u32 {
     }
 }
 
-/// One of the three functions of a host program. Admission takes the table
-/// alone and makes nothing of a second file.
+/// Making a region list: the packed answer.
+#[cfg(feature = "making")]
+pub fn make_list(table: &mut [u8], buffer: &mut [u8], waiting: &mut [Row]) -> u32 {
+    let (table_length, buffer_length) = (table.len(), buffer.len());
+    let waiting_count = waiting.len();
+    unsafe {
+        tzelmaruf_make_list(
+            table.as_mut_ptr(),
+            table_length,
+            buffer.as_mut_ptr(),
+            buffer_length,
+            waiting.as_mut_ptr(),
+            waiting_count,
+        )
+    }
+}
+
+/// One of the functions of a host program. Admission takes the table alone and makes
+/// nothing of a second file, and only making takes a waiting list.
 #[derive(Clone, Copy, Debug, PartialEq, Eq)]
 pub enum Function {
     Admit,
     CheckRun,
     CheckRegions,
+    #[cfg(feature = "making")]
+    MakeList,
 }
 
 impl Function {
@@ -134,6 +168,8 @@ impl Function {
             Function::Admit => "tzelmaruf_admit",
             Function::CheckRun => "tzelmaruf_check_run",
             Function::CheckRegions => "tzelmaruf_check_regions",
+            #[cfg(feature = "making")]
+            Function::MakeList => "tzelmaruf_make_list",
         }
     }
 
@@ -143,6 +179,8 @@ impl Function {
             Function::Admit => tzelmaruf_admit as *const () as usize,
             Function::CheckRun => tzelmaruf_check_run as *const () as usize,
             Function::CheckRegions => tzelmaruf_check_regions as *const () as usize,
+            #[cfg(feature = "making")]
+            Function::MakeList => tzelmaruf_make_list as *const () as usize,
         }
     }
 }

@@ -8,6 +8,7 @@ pub const OF_ADMISSION: &[u8] = &[0, 1, 2, 3, 4, 5, 6];
 pub const OF_RUNS: &[u8] = &[0, 1, 2, 3, 4, 5, 6, 7, 8, 9, 10, 11, 12, 13];
 pub const OF_REGIONS: &[u8] = &[0, 1, 2, 3, 4, 5, 6, 7, 8, 9, 14, 15, 16, 17];
 pub const OF_FOLLOWING: &[u8] = &[0, 1, 2, 3, 4, 5, 6, 7, 8, 9, 18, 19];
+pub const OF_MAKING: &[u8] = &[0, 1, 2, 3, 4, 5, 6, 20, 21];
 
 /// Where a refusal stands among the places it can have in the file.
 #[derive(Clone, Copy, Debug, PartialEq, Eq)]
@@ -65,7 +66,7 @@ fn number_at(file: &[u8], at: usize) -> u32 {
         .map_or(0, |bytes| u32::from(two_bytes(bytes)))
 }
 
-const NUMBERS: usize = 20;
+const NUMBERS: usize = 22;
 
 /// A number as a word: a refusal's own, or acceptance.
 fn name(number: u8) -> String {

@@ -12,21 +12,6 @@ use tzelmaruf_tester::run::{encode_run, Run, Step};
 use tzelmaruf_tester::successor::{by_points, NextRows};
 use tzelmaruf_tester::{admit, check_regions, check_run, follow, verdict};
 
-const P1_TABLE: &str = "54 41 01 03 00 00 02 02, 4C 4F 00, 4C 4F 00, 4C 4F 01, \
-    45 44 00 01 01 00 03 02 00 00 00 00 00, 45 44 01 02 01 00 00 02 00 00 00 00 00";
-const P1_ROWS: [&str; 8] = [
-    "000000", "000101", "000200", "000301", "000400", "000500", "010400", "010500",
-];
-
-fn p1_list(count: u8, rows: &[&str]) -> Vec<u8> {
-    let mut list = bytes(&format!("52 4C 00 {count:02X}"));
-    for row in rows {
-        list.extend(bytes("52 57"));
-        list.extend(bytes(row));
-    }
-    list
-}
-
 #[test]
 fn p1_closed_list() {
     let table = bytes(P1_TABLE);

@@ -7,15 +7,16 @@ use tzelmaruf_tester::call::{Call, Input};
 use tzelmaruf_tester::compare::wide;
 use tzelmaruf_tester::generate::{seed, Random};
 use tzelmaruf_tester::guarded::{report_touched_pages, trying, Guarded, TOUCHED};
+use tzelmaruf_tester::make::Row;
 use tzelmaruf_tester::rooms::{Rooms, Side};
-use tzelmaruf_tester::{admit, check_regions, check_run, follow};
+use tzelmaruf_tester::{admit, check_regions, check_run, follow, make_list};
 use tzelmaruf_tester::{needs_checker, needs_probe};
 
 needs_checker!();
 needs_probe!();
 
 /// One input on one side of the rooms: answered as by the rules, and nothing written
-/// but what following has to write.
+/// but what following or making has to write, nor beside it.
 fn is_right(rooms: &mut Rooms, side: Side, input: &Input) -> bool {
     let (table, second) = (&input.table, &input.second);
     let mut expected = input.buffer.clone();
@@ -26,8 +27,16 @@ fn is_right(rooms: &mut Rooms, side: Side, input: &Input) -> bool {
         Call::Run => answer == check_run(table, second).packed().into(),
         Call::Regions => answer == check_regions(table, second).packed().into(),
         Call::Following => answer == wide(follow(table, second, input.number, &mut expected)),
+        Call::Making => {
+            let mut waiting = input.waiting.rows();
+            answer
+                == make_list(table, &mut expected, &mut waiting)
+                    .packed()
+                    .into()
+        }
     };
-    is_answered && outcome.is_intact && *outcome.buffer == *expected
+    let is_cleared = outcome.waiting.iter().all(|row| *row == Row::default());
+    is_answered && outcome.is_intact && *outcome.buffer == *expected && is_cleared
 }
 
 fn try_call(call: Call, usual_seed: u64, cases: u64) {
@@ -65,6 +74,44 @@ fn following() {
     try_call(Call::Following, 30_704, 25_000);
 }
 
+#[cfg(feature = "making")]
+#[test]
+fn making() {
+    try_call(Call::Making, 30_706, 12_000);
+}
+
+/// Buffers and waiting lists of every telling length, for a list that is made and one that is not.
+#[cfg(feature = "making")]
+#[test]
+fn making_in_rooms_of_every_length() {
+    use tzelmaruf_tester::generate::WaitingList;
+    report_touched_pages();
+    let mut rooms = Rooms::default();
+    let seed = seed(30_707);
+    for case in 0..60 {
+        trying(Call::Making.name(), case);
+        let usual = Input::random(Call::Making, &mut Random::of_case(seed, case));
+        let mut longest = vec![0xA5; 45_100];
+        make_list(&usual.table, &mut longest, &mut vec![Row::default(); 4_096]);
+        let behind = longest.iter().rev().take_while(|byte| **byte == 0xA5);
+        let exact = longest.len() - behind.count();
+        let around = exact.saturating_sub(13)..(exact + 13).min(longest.len());
+        for length in (0..13).chain(around) {
+            for records in [0, 1, 4_095, 4_096, 5_000] {
+                let input = Input {
+                    buffer: vec![0xA5; length],
+                    waiting: WaitingList { records, seed },
+                    ..usual.clone()
+                };
+                for side in Side::BOTH {
+                    let is_right = is_right(&mut rooms, side, &input);
+                    assert!(is_right, "case {case} {side:?}:\n{}", input.text());
+                }
+            }
+        }
+    }
+}
+
 /// Every cut of a table and of a list, so that the end falls on every field.
 #[test]
 fn every_cut() {
@@ -72,7 +119,7 @@ fn every_cut() {
     let mut rooms = Rooms::default();
     let seed = seed(30_705);
     for case in 0..200 {
-        let call = Call::ALL[case as usize % 4];
+        let call = Call::ALL[case as usize % Call::ALL.len()];
         trying(call.name(), case);
         let input = Input::random(call, &mut Random::of_case(seed, case));
         for length in 0..input.table.len().min(300) {

@@ -16,7 +16,7 @@ fn text_is_read_back() {
     println!("seed {seed}");
     for case in 0..2_000 {
         for call in Call::ALL {
-            let input = Input::random(call, &mut Random::of_case(seed, case));
+            let input = Input::random(*call, &mut Random::of_case(seed, case));
             let text = input.text();
             assert_eq!(Input::from_text(&text), Ok(input), "{text}");
         }
@@ -33,6 +33,8 @@ fn other_text_is_refused() {
         good.replace("table 5441", "table 544"),
         good.replace("table 5441", "table +441"),
         good.replace("number ", "number x"),
+        good.replace("waiting 0 ", "waiting 0"),
+        good.replace("waiting 0 ", "waiting -1 "),
     ];
     for text in wrong {
         assert!(Input::from_text(&text).is_err(), "{text}");

@@ -21,13 +21,6 @@ needs_probe!();
 const CASES: u64 = 100_000;
 const LARGE_ONCE_IN: usize = 50;
 
-/// A buffer in which neighbours differ and no mark of a row stands.
-fn patterned(length: usize) -> Vec<u8> {
-    (0..length)
-        .map(|index| (index * 37 % 61) as u8 + 0x80)
-        .collect()
-}
-
 #[test]
 fn random_rows() {
     let seed = seed(30_401);

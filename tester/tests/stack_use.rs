@@ -1,4 +1,4 @@
-//! The stack that the three C functions use, measured on many files, against
+//! The stack that the C functions use, measured on many files, against
 //! what the compiled code can use at most (`tests/stack.sh` beside this folder).
 
 mod common;
@@ -44,8 +44,13 @@ fn used_at_random(function: Function, call: Call, seed: u64) -> usize {
     let mut stack = Stack::new(ROOM);
     let used = (0..CASES).map(|case| {
         let mut input = Input::random(call, &mut Random::of_case(seed, case));
-        let (table, second) = (&mut input.table, &mut input.second);
-        stack.call(function, table, second).1
+        let mut waiting = input.waiting.rows();
+        let second = match call {
+            Call::Making => &mut input.buffer,
+            _ => &mut input.second,
+        };
+        let used = stack.call_with_waiting(function, &mut input.table, second, &mut waiting);
+        used.1
     });
     used.max().unwrap()
 }
@@ -67,6 +72,25 @@ fn used_by_the_visit_of_most_choices() -> usize {
     used
 }
 
+/// The most that making uses on the benchmark's tables, which have rows and edges of all kinds.
+#[cfg(feature = "making")]
+fn used_by_making() -> usize {
+    use tzelmaruf_tester::make::{list_length, Row, WAITING_RECORDS};
+    use tzelmaruf_tester::slow::timed::made::made_lists;
+    let mut stack = Stack::new(ROOM);
+    let used = made_lists().into_iter().map(|timed| {
+        let automaton = timed.automaton();
+        let mut table = encode_table(&automaton);
+        let mut buffer = vec![0xA5; list_length(automaton.clocks(), 4_096)];
+        let mut waiting = vec![Row::default(); WAITING_RECORDS];
+        let made = Function::MakeList;
+        let (answer, used) = stack.call_with_waiting(made, &mut table, &mut buffer, &mut waiting);
+        assert_eq!(answer, timed.expected.packed(), "{}", timed.name);
+        used
+    });
+    used.max().unwrap()
+}
+
 #[test]
 fn the_stack_used_is_within_the_bounds() {
     let seed = seed(30_801);
@@ -76,11 +100,17 @@ fn the_stack_used_is_within_the_bounds() {
         (Function::Admit, Call::Admission),
         (Function::CheckRun, Call::Run),
         (Function::CheckRegions, Call::Regions),
+        #[cfg(feature = "making")]
+        (Function::MakeList, Call::Making),
     ];
     for (function, call) in calls {
         let mut used = used_at_random(function, call, seed);
         if function == Function::CheckRegions {
             used = used.max(used_by_the_visit_of_most_choices());
+        }
+        #[cfg(feature = "making")]
+        if function == Function::MakeList {
+            used = used.max(used_by_making());
         }
         let bound = bounds[function.name()];
         println!("{}: {used} bytes used, bound {bound}", function.name());

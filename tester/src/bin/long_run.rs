@@ -52,6 +52,8 @@ struct Outcome {
     differences: u64,
     longest_table: usize,
     longest_second: usize,
+    longest_buffer: usize,
+    greatest_count: u32,
     start: Instant,
 }
 
@@ -63,6 +65,8 @@ impl Outcome {
             differences: 0,
             longest_table: 0,
             longest_second: 0,
+            longest_buffer: 0,
+            greatest_count: 0,
             start: Instant::now(),
         }
     }
@@ -73,10 +77,14 @@ impl Outcome {
         let input = input_of(call, seed, case);
         self.longest_table = self.longest_table.max(input.table.len());
         self.longest_second = self.longest_second.max(input.second.len());
+        self.longest_buffer = self.longest_buffer.max(input.buffer.len());
         let side = Side::BOTH[case as usize % 2];
         match input.compare_in(rooms, side) {
             Ok(met) => {
                 self.tally.count(met.number, met.position);
+                if met.number == 0 {
+                    self.greatest_count = self.greatest_count.max(met.place);
+                }
                 if input.has_not_equal() {
                     self.tally_of_not_equal.count(met.number, met.position);
                 }
@@ -100,8 +108,11 @@ impl Outcome {
             grouped(accepted)
         );
         println!(
-            "longest table {} bytes, longest paper or row {} bytes",
-            self.longest_table, self.longest_second
+            "longest table {} bytes, paper or row {} bytes, buffer {} bytes; greatest count {}",
+            self.longest_table,
+            self.longest_second,
+            self.longest_buffer,
+            grouped(self.greatest_count.into())
         );
         let seconds = self.start.elapsed().as_secs();
         println!("differences: {}; {seconds} seconds", self.differences);
@@ -201,7 +212,8 @@ fn replay(file: &str) -> u8 {
 }
 
 fn usage() -> u8 {
-    let names = Call::ALL.map(Call::name).join(", ");
+    let names: Vec<&str> = Call::ALL.iter().map(|call| call.name()).collect();
+    let names = names.join(", ");
     eprintln!("usage: long_run [CASES [CALL]]    (as 2000000; the calls: {names})");
     eprintln!("       long_run keep CALL CASE");
     eprintln!("       long_run replay FILE");
@@ -213,7 +225,7 @@ fn main() -> ExitCode {
     let words: Vec<&str> = words.iter().map(String::as_str).collect();
     let number = |word: &str| word.parse::<u64>().ok();
     ExitCode::from(match words[..] {
-        [] => long_run(&Call::ALL, USUAL_CASES),
+        [] => long_run(Call::ALL, USUAL_CASES),
         ["replay", file] => replay(file),
         ["keep", call, case] => match (Call::named(call), number(case)) {
             (Some(call), Some(case)) => {
@@ -223,7 +235,7 @@ fn main() -> ExitCode {
             }
             _ => usage(),
         },
-        [cases] => number(cases).map_or_else(usage, |cases| long_run(&Call::ALL, cases)),
+        [cases] => number(cases).map_or_else(usage, |cases| long_run(Call::ALL, cases)),
         [cases, call] => match (number(cases), Call::named(call)) {
             (Some(cases), Some(call)) => long_run(&[call], cases),
             _ => usage(),

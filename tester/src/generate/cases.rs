@@ -1,15 +1,17 @@
-//! Whole inputs of the four calls.
+//! Whole inputs of the five calls.
 
 use super::damage::damage;
 use super::random::Random;
 use super::tables::{self, Shape};
+use super::waiting::WaitingList;
 use super::{lists, rows};
 use crate::automaton::{Automaton, Guard, Update, GREATEST_GUARDS};
 use crate::explore::closure;
 use crate::follow::{next_rows, WAIT};
 use crate::format::encode_table;
+use crate::make::{kept_rows, list_length, WAITING_RECORDS};
 use crate::region::row_length;
-use crate::region_list::encode_regions;
+use crate::region_list::{encode_regions, GREATEST_ROWS};
 use crate::run::{encode_run, GREATEST_STEPS};
 use crate::successor::by_intervals::is_enabled;
 use crate::Region;
@@ -28,6 +30,14 @@ pub struct FollowCase {
     pub row: Vec<u8>,
     pub number: u16,
     pub buffer: Vec<u8>,
+}
+
+/// The input of making; the buffer is filled with random bytes.
+#[derive(Clone, Debug)]
+pub struct MakeCase {
+    pub table: Vec<u8>,
+    pub buffer: Vec<u8>,
+    pub waiting: WaitingList,
 }
 
 /// A table: admitted, nearly so, or damaged. Once in `large_once_in` cases it
@@ -239,4 +249,54 @@ fn row_and_number(random: &mut Random, automaton: &Automaton) -> (Region, u16) {
         .map(|_| rows::row_in(random, automaton, edge.source))
         .find(|row| is_enabled(edge, *row));
     (taken.unwrap_or(row), number as u16)
+}
+
+/// A table, a buffer that is often just long enough or not, and mostly a waiting list that is.
+pub fn make_case(random: &mut Random, large_once_in: usize) -> MakeCase {
+    let shape = Shape::biased(random, large_once_in);
+    let mut automaton = tables::admitted(random, shape);
+    let most = match random.once_in(100) {
+        true => GREATEST_ROWS.into(),
+        false => 200,
+    };
+    if random.once_in(2) {
+        // Else a final location would be entered in most cases.
+        for row in closure(&automaton, most).rows {
+            automaton.locations[usize::from(row.location())].is_final = false;
+        }
+    }
+    let kept = kept_rows(&automaton, most).map_or(most, |kept| kept.rows.len());
+    let exact = list_length(automaton.clocks(), kept);
+    let longest = list_length(automaton.clocks(), GREATEST_ROWS.into());
+    let size = match random.below(16) {
+        0..=3 => exact,
+        4..=6 => exact + random.below(64),
+        7 | 8 => exact - 1 - random.below(exact.min(row_length(automaton.clocks()))),
+        9 => random.below(exact),
+        10 => random.below(12),
+        11 => longest + random.below(100),
+        _ => exact + random.below(4_000),
+    };
+    MakeCase {
+        table: match random.once_in(6) {
+            true => admit_case(random, large_once_in),
+            false => table_of(random, &automaton),
+        },
+        buffer: (0..size).map(|_| random.byte()).collect(),
+        waiting: waiting_list(random),
+    }
+}
+
+/// Mostly of the least length that will do.
+fn waiting_list(random: &mut Random) -> WaitingList {
+    let records = match random.below(24) {
+        0 => random.pick(&[0, 1, WAITING_RECORDS - 1]),
+        1 => random.below(WAITING_RECORDS),
+        2 | 3 => WAITING_RECORDS + random.below(904),
+        _ => WAITING_RECORDS,
+    };
+    WaitingList {
+        records,
+        seed: random.draw(),
+    }
 }

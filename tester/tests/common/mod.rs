@@ -79,6 +79,30 @@ pub fn bytes(text: &str) -> Vec<u8> {
         .collect()
 }
 
+/// The table of P1 and the rows of its list.
+pub const P1_TABLE: &str = "54 41 01 03 00 00 02 02, 4C 4F 00, 4C 4F 00, 4C 4F 01, \
+    45 44 00 01 01 00 03 02 00 00 00 00 00, 45 44 01 02 01 00 00 02 00 00 00 00 00";
+pub const P1_ROWS: [&str; 8] = [
+    "000000", "000101", "000200", "000301", "000400", "000500", "010400", "010500",
+];
+
+/// The file of such rows.
+pub fn p1_list(count: u8, rows: &[&str]) -> Vec<u8> {
+    let mut list = bytes(&format!("52 4C 00 {count:02X}"));
+    for row in rows {
+        list.extend(bytes("52 57"));
+        list.extend(bytes(row));
+    }
+    list
+}
+
+/// A buffer in which neighbours differ and no mark of a row stands.
+pub fn patterned(length: usize) -> Vec<u8> {
+    (0..length)
+        .map(|index| (index * 37 % 61) as u8 + 0x80)
+        .collect()
+}
+
 /// All updates of a clock that the bound rule permits, offsets up to two above the least.
 pub fn all_updates(bounds: &[u8], own: usize) -> Vec<Update> {
     let mut updates = vec![Update::Keep];

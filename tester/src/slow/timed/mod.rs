@@ -2,6 +2,7 @@
 
 pub mod families;
 pub mod found;
+pub mod made;
 pub mod refused;
 
 use crate::answer::{number, Answer, Refusal};

@@ -1,11 +1,14 @@
 //! The checker's time beside that of the rules, on the same input in the same
 //! run: `benchmark [REPETITIONS [PART [WORD..]]]`, to be built for release. The parts
-//! are admission, run, lists, followings and refusals; without one it is all of them. Words
-//! choose among the cases of a part: those that have all of them in their name.
+//! are admission, run, lists, followings, refusals and, with its feature, making; without one it
+//! is all of them. Words choose among the cases of a part: those that have all of them in their name.
 //!
 //! The two sides take turns, and the best processor time of each counts, so that
 //! other work on the machine disturbs the ratio as little as it can. Refused lists take
 //! turns besides with the accepted lists that they were made from.
+
+#[cfg(feature = "making")]
+mod making;
 
 use std::cell::Cell;
 use std::hint::black_box;
@@ -393,12 +396,14 @@ const fn part(name: &'static str, columns: Columns, time: fn(&Plan)) -> Part {
     }
 }
 
-const PARTS: [Part; 5] = [
+const PARTS: &[Part] = &[
     part("admission", OF_SIDES, time_admission),
     part("run", OF_SIDES, time_runs),
     part("lists", OF_SIDES, time_lists),
     part("followings", OF_SIDES, time_followings),
     part("refusals", OF_REFUSALS, time_refusals),
+    #[cfg(feature = "making")]
+    part("making", making::COLUMNS, making::time_making),
 ];
 
 /// The first lines of a table with such columns.
@@ -463,7 +468,7 @@ fn main() -> ExitCode {
     match plan.wrong.get() {
         0 => ExitCode::SUCCESS,
         wrong => {
-            eprintln!("benchmark: the checker answered {wrong} lists otherwise than the rules");
+            eprintln!("benchmark: the checker answered {wrong} cases otherwise than the rules");
             ExitCode::FAILURE
         }
     }
