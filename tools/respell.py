@@ -8,7 +8,8 @@ The names are the rows of respelled.tsv beside this file: the old one, a tab, th
   .antt      the code, and what stands between backquotes in a comment
   .rt .edit  the same, but no string
   .md        what stands between backquotes, and lines that are quoted (indented by four blanks)
-A name that Rattle itself makes of the code stays: in a proof of a function the first name behind c, g, v or w.
+A name that Rattle itself makes of the code stays: in a proof of a function the first name behind c, g, v or w. So does, in the whole file, a name that
+an item 'use' brings from a library that is not the repository's own.
 A second run changes nothing. It proves nothing: `rt check` does.
 """
 
@@ -21,6 +22,7 @@ WORD = re.compile(r'[^\s(){}.;,@"«»`\[\]]+')
 MADE = re.compile(r"(?<![\w'.)\-])[cgvw]\.$")
 PROOFS = {"Answers.antt", "Invariants.antt", "Proof.antt"}
 BACKQUOTED = re.compile(r"`[^`\n]*`")
+USED = re.compile(r"\buse ([^\s;{}]+)\.\{([^}]*)\}")
 DECLARED = re.compile(r'^ *(?:\w+ )*?([^\s(){}.;,@"«»]+)(?: \{[^{}\n]*\})*(?: \([^()\n]*\))* :')
 
 
@@ -49,6 +51,14 @@ def code(line, names, comment, is_proof=False):
     body, rest = (line, "") if at < 0 else (line[:at], line[at:])
     parts = re.split(r'("(?:[^"\\]|\\.)*")', body)
     return "".join(p if i % 2 else turned(p, names, is_proof) for i, p in enumerate(parts)) + spans(rest, names)
+
+
+def lent(text, crates):
+    """The names that the items 'use' bring from libraries other than `crates`."""
+    for path, items in USED.findall(text):
+        steps = path.split(".")
+        if steps[0] != "Rattle" or steps[1] not in crates:
+            yield from re.split(r"[,\s]+", items)
 
 
 def respelled(path, text, names):
@@ -82,6 +92,11 @@ def declared(root):
     return sorted(names)
 
 
+def own_crates(root):
+    with open(os.path.join(root, "crates.txt"), encoding="utf-8") as f:
+        return set(re.findall(r"(?m)^(\w+)(?: staticlib)?:", f.read()))
+
+
 def main(words):
     is_list = words[:1] == ["--names"]
     folders = words[1:] if is_list else words
@@ -93,11 +108,12 @@ def main(words):
     if is_list:
         print("\n".join(declared(root)))
         return
-    names, changed = rows(), 0
+    names, crates, changed = rows(), own_crates(root), 0
     for path in files(root):
         with open(path, encoding="utf-8") as f:
             text = f.read()
-        new = respelled(path, text, names)
+        staying = set(lent(text, crates))
+        new = respelled(path, text, {old: new for old, new in names.items() if old not in staying})
         if new != text:
             changed += 1
             with open(path, "w", encoding="utf-8") as f:

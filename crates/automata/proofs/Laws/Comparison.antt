@@ -3,7 +3,7 @@ use Prim.Native.Nat.{ℕ, zero, suc, ◌≤◌, ◌<◌, compare, Ordering}
 use native.Mathlib.Decide.{dec_lt}
 use native.Mathlib.Omega.{arith}
 use mathlib.Core.Path.{◌≡◌, refl, sym, ap, ◌∙◌}
-use mathlib.Core.Bool.{Bool, true, false, not, ◌&&◌, ◌||◌, and_true, and_false, or_true}
+use mathlib.Core.Bool.{Bool, true, false, not, ◌&&◌, ◌||◌, and-true, and-false, or-true}
 use mathlib.Core.Logic.{◌↔◌, ◌⊎◌, inl, inr, ⊎_elim}
 use mathlib.Core.List.{List, [], ◌∷◌}
 use lib.ListN.{length, get_or}
@@ -22,15 +22,15 @@ place_small Ordering.gt = omega arith
 -- whether a comparison asks for one value, answer by answer
 pub not_below_alone : (cmp : ℕ) → answer cmp Ordering.lt ≡ true → false ≡ at_alone cmp
 unfolding at_alone
-not_below_alone cmp h = rw h (sym (and_false (answer cmp Ordering.eq)))
+not_below_alone cmp h = rw h (sym (and-false (answer cmp Ordering.eq)))
 
 pub not_above_alone : (cmp : ℕ) → answer cmp Ordering.gt ≡ true → false ≡ at_alone cmp
 unfolding at_alone
-not_above_alone cmp h = rw (h, or_true (answer cmp Ordering.lt)) (sym (and_false (answer cmp Ordering.eq)))
+not_above_alone cmp h = rw (h, or-true (answer cmp Ordering.lt)) (sym (and-false (answer cmp Ordering.eq)))
 
 pub at_is_alone : (cmp : ℕ) → answer cmp Ordering.lt ≡ false → answer cmp Ordering.gt ≡ false → answer cmp Ordering.eq ≡ at_alone cmp
 unfolding at_alone
-at_is_alone cmp l g = rw (l, g) (sym (and_true (answer cmp Ordering.eq)))
+at_is_alone cmp l g = rw (l, g) (sym (and-true (answer cmp Ordering.eq)))
 
 -- what a comparison allows that asks for one value: that value, and no other
 pub alone_law : (cmp : ℕ) → at_alone cmp ≡ true → (x y : ℕ) → (holds cmp x y ≡ true) ↔ (x ≡ y)
@@ -116,8 +116,8 @@ no_comparison cmp x y h = no_answer cmp (compare x y) h
 pub some_order : (cmp : ℕ) (o : Ordering) → answer cmp o ≡ true → some_answer cmp ≡ true
 unfolding some_answer
 some_order cmp Ordering.lt h = rw h
-some_order cmp Ordering.eq h = rw (h, or_true (answer cmp Ordering.lt))
-some_order cmp Ordering.gt h = rw h (or_true (answer cmp Ordering.lt || answer cmp Ordering.eq))
+some_order cmp Ordering.eq h = rw (h, or-true (answer cmp Ordering.lt))
+some_order cmp Ordering.gt h = rw h (or-true (answer cmp Ordering.lt || answer cmp Ordering.eq))
 
 -- each row of the table has a yes: just the numbers of comparisons allow some order
 pub some_answer_law : (cmp : ℕ) → ltb cmp comparisons ≡ some_answer cmp

@@ -3,7 +3,7 @@ use Prim.Native.Nat.{ℕ, ◌+◌, ◌*◌, ◌<◌}
 use native.Mathlib.Nat.{mul-add, mul_left_comm, mul-pos}
 use mathlib.Core.Path.{◌≡◌, ap, ◌∙◌}
 use mathlib.Core.Bool.{true}
-use mathlib.Core.List.{List, [], ◌∷◌, map, map_append}
+use mathlib.Core.List.{List, [], ◌∷◌, map, map-append}
 use lib.ListN.{get_or}
 use Rattle.automata.specs.Comparison.{answer, holds}
 use Rattle.automata.specs.Clocks.{at}
@@ -50,4 +50,4 @@ module _ (k : ℕ) (positive : 0 < k) where
 
   pub run_scaled : {T : Table} {D : ℕ} {ms : List Move} {s : State} → Run T D ms s → Run T (k * D) (map (scaled_move k) ms) (scaled_state k s)
   run_scaled {T} {D} (begin d) = rw (scaled_zeros k (clocks T)) (begin (mul-pos positive d))
-  run_scaled {T} {D} (move {ms = ms} {s = s} m run st) = rw (map_append (scaled_move k) ms (m ∷ [])) (move (scaled_move k m) (run_scaled run) (step_scaled st))
+  run_scaled {T} {D} (move {ms = ms} {s = s} m run st) = rw (map-append (scaled_move k) ms (m ∷ [])) (move (scaled_move k m) (run_scaled run) (step_scaled st))

@@ -4,7 +4,7 @@ use native.Mathlib.Numerals.{add-one}
 use native.Mathlib.Nat.{zero-mul, add-mul, one-mul}
 use native.Mathlib.Omega.{arith}
 use mathlib.Core.Path.{◌≡◌, refl, sym, ap, ◌∙◌}
-use mathlib.Core.List.{List, [], ◌∷◌, ◌++◌, map, append_assoc, append-nil, map_append}
+use mathlib.Core.List.{List, [], ◌∷◌, ◌++◌, map, append_assoc, append-nil, map-append}
 use lib.ListN.{length, take, drop, set, replicate, length-append, length-drop, length-set, length-replicate, take-append-drop, replicate-append-replicate}
 use lib.Seq.{length-take-le, take_at, drop_at, drop-drop, drop-append-le, drop-length}
 use Rattle.automata.specs.Row.{Row}
@@ -32,7 +32,7 @@ listed_more n list i =
     let e : 0 + i ≡ i = omega arith in
     ap (λ (k : ℕ). map (listed_row n list) (from 0 k)) (add-one i)
     ∙ ap (map (listed_row n list)) (from_last 0 i ∙ (λ j. from 0 i ++ (e j ∷ [])))
-    ∙ map_append (listed_row n list) (from 0 i) (i ∷ [])
+    ∙ map-append (listed_row n list) (from 0 i) (i ∷ [])
 
 -- the marks -----------------------------------------------------------------------------------------------------------------------------
 

@@ -4,7 +4,7 @@ use Prim.Native.Nat.{ℕ, ◌+◌, ◌%◌, ◌/◌, ◌≤◌, ◌<◌}
 use native.Mathlib.Decide.{ℕ_discrete}
 use native.Mathlib.Omega.{arith}
 use mathlib.Core.Path.{◌≡◌, refl, sym, ap, ◌∙◌}
-use mathlib.Core.Bool.{Bool, true, false, not, cond, ◌||◌, and_false}
+use mathlib.Core.Bool.{Bool, true, false, not, cond, ◌||◌, and-false}
 use mathlib.Core.List.{List, map}
 use lib.ListN.{length, take, get_or, set, length-set, length-map}
 use lib.Seq.{ext_get_or, get_or-set_same, get_or-set_other, length-take-le}
@@ -31,7 +31,7 @@ module _ (cmp : ℕ) where
 
   pub no_above : answer cmp Ordering.gt ≡ false → false ≡ sides_alone cmp
   unfolding sides_alone
-  no_above g = rw (g, and_false (answer cmp Ordering.lt))
+  no_above g = rw (g, and-false (answer cmp Ordering.lt))
 
   pub both_sides : answer cmp Ordering.lt ≡ true → answer cmp Ordering.gt ≡ true → not (answer cmp Ordering.eq) ≡ sides_alone cmp
   unfolding sides_alone
