@@ -169,20 +169,37 @@ run_reached = Runs.run_reached
 
 -- lists made from a table ------------------------------------------------------------------------------------------------------
 
+-- the bytes that the finished list takes
+abbrev pub list_made : List ℕ → ℕ → List ℕ → List ℕ
+list_made = Makes.list_made
+
 -- an accepted call leaves the file of a closed list of so many rows, which the check accepts, and no run ends in a final location
 pub make_accepts : (table : List ℕ) (records : ℕ) (buffer : List ℕ) (k : ℕ) → make_answer table (length buffer) records ≡ accepted k
     → Passes table
-    × RegionListOf (table_of table) (list_in (table_of table) k (make_buffer table records buffer)) k
-    × (list_answer table (list_in (table_of table) k (make_buffer table records buffer)) ≡ accepted k)
+    × RegionListOf (table_of table) (list_made table records buffer) k
+    × (list_answer table (list_made table records buffer) ≡ accepted k)
     × (Reached (table_of table) → ⊥)
 make_accepts = Makes.make_accepts
 
 -- it stands first in the buffer, and "later buffer bytes stay"
 pub make_writes : (table : List ℕ) (records : ℕ) (buffer : List ℕ) (k : ℕ) → make_answer table (length buffer) records ≡ accepted k
+    → AreBytes (list_made table records buffer)
+    × (make_buffer table records buffer ≡ list_made table records buffer ++ drop (length (list_made table records buffer)) buffer)
+make_writes = Makes.make_writes
+
+-- the same of the first bytes that a list of so many rows takes, by which the contract of the call says it
+pub make_accepts_in : (table : List ℕ) (records : ℕ) (buffer : List ℕ) (k : ℕ) → make_answer table (length buffer) records ≡ accepted k
+    → Passes table
+    × RegionListOf (table_of table) (list_in (table_of table) k (make_buffer table records buffer)) k
+    × (list_answer table (list_in (table_of table) k (make_buffer table records buffer)) ≡ accepted k)
+    × (Reached (table_of table) → ⊥)
+make_accepts_in = Makes.make_accepts_in
+
+pub make_writes_in : (table : List ℕ) (records : ℕ) (buffer : List ℕ) (k : ℕ) → make_answer table (length buffer) records ≡ accepted k
     → AreBytes (list_in (table_of table) k (make_buffer table records buffer))
     × (make_buffer table records buffer
     ≡ list_in (table_of table) k (make_buffer table records buffer) ++ drop (length (list_in (table_of table) k (make_buffer table records buffer))) buffer)
-make_writes = Makes.make_writes
+make_writes_in = Makes.make_writes_in
 
 -- 21 is given where some run does
 pub make_reached : (table : List ℕ) (room records place : ℕ) → make_answer table room records ≡ refused 21 place → Reached (table_of table)

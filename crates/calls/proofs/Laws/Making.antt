@@ -153,12 +153,16 @@ make_outcome table room records = go (admitted table) refl
 
 -- what the answers mean ------------------------------------------------------------------------------------------------------------
 
+-- the file that the buffer begins with after an accepted call
+abbrev pub list_made : List ℕ → ℕ → List ℕ → List ℕ
+list_made table records buffer = take (length (list_bytes (kept (table_of table)))) (make_buffer table records buffer)
+
 -- what is made is the kept rows
 module _ (table : List ℕ) (records : ℕ) (buffer : List ℕ) (k : ℕ) where
   abbrev T : Table
   T = table_of table
 
-  -- the file that the buffer begins with after an accepted call
+  -- the same by the count that was answered
   abbrev made_list : List ℕ
   made_list = list_in T k (make_buffer table records buffer)
 
@@ -168,7 +172,8 @@ module _ (table : List ℕ) (records : ℕ) (buffer : List ℕ) (k : ℕ) where
     sized : length (kept T) ≡ k
     closed : Closed T (kept T)
     written : make_buffer table records buffer ≡ list_bytes (kept T) ++ drop (length (list_bytes (kept T))) buffer
-    file : made_list ≡ list_bytes (kept T)
+    file : list_made table records buffer ≡ list_bytes (kept T)
+    counted : made_list ≡ list_bytes (kept T)
 
   all_made : make_answer table (length buffer) records ≡ accepted k → Made
   unfolding make_answer make_buffer
@@ -182,6 +187,7 @@ module _ (table : List ℕ) (records : ℕ) (buffer : List ℕ) (k : ℕ) where
           let A = admission_admitted table p.0 p.1 in
           let b : List ℕ = list_bytes (kept T) in
           let after = (make_told table records buffer w).1 in
+          let first = ap (take (length b)) after ∙ take_at b (drop (length b) buffer) (length b) refl in
           let many : length (kept T) ≡ k = cc in
           let long : 4 + k * row_width (clocks T) ≡ length b =
           ap (λ (n : ℕ). 4 + n * row_width (clocks T)) (sym many) ∙ sym (list_bytes_length T (kept T) (λ r i. kept_row T A (kept_sound T r i)))
@@ -192,33 +198,51 @@ module _ (table : List ℕ) (records : ℕ) (buffer : List ℕ) (k : ℕ) where
             sized = many;
             closed = kept_closed T A f.0.0 e;
             written = after;
-            file = ap (λ (n : ℕ). take n (make_buffer table records buffer)) long ∙ ap (take (length b)) after ∙ take_at b (drop (length b) buffer) (length b) refl;
+            file = first;
+            counted = ap (λ (n : ℕ). take n (make_buffer table records buffer)) long ∙ first;
           }
 
-  -- a closed list is made, which the check accepts, and no run ends in a final location
+  -- of any list that has the bytes of the kept rows: it is closed, the check accepts it, and no run ends in a final location
+  accepts : (l : List ℕ) → l ≡ list_bytes (kept T) → Made → Passes table × RegionListOf T l k × (list_answer table l ≡ accepted k) × (Reached T → ⊥)
+  accepts l is m = (
+    m.passes,
+    record { rows = kept T; bytes = is; sized = m.sized; few = omega (arith, m.fits.0.0, m.sized); closed = m.closed },
+    ap (list_answer table) is ∙ closed_accepted table m.passes (kept T) m.closed m.fits.0.0 ∙ ap accepted m.sized,
+    sound T (kept T) m.closed,
+  )
+
+  -- its file stands first in the buffer, is bytes, and "later buffer bytes stay"
+  writes : (l : List ℕ) → l ≡ list_bytes (kept T) → Made → AreBytes l × (make_buffer table records buffer ≡ l ++ drop (length l) buffer)
+  writes l is m =
+      let (n, p) = m.passes in (
+        rw is (list_are_bytes T (admission_limits table n p) (kept T) m.closed.are_rows m.fits.0.0),
+        m.written ∙ (λ i. sym is i ++ drop (length (sym is i)) buffer),
+      )
+
   pub make_accepts : make_answer table (length buffer) records ≡ accepted k
+      → Passes table
+      × RegionListOf T (list_made table records buffer) k
+      × (list_answer table (list_made table records buffer) ≡ accepted k)
+      × (Reached T → ⊥)
+  make_accepts h = let m = all_made h in accepts (list_made table records buffer) m.file m
+
+  pub make_writes : make_answer table (length buffer) records ≡ accepted k
+      → AreBytes (list_made table records buffer)
+      × (make_buffer table records buffer ≡ list_made table records buffer ++ drop (length (list_made table records buffer)) buffer)
+  make_writes h = let m = all_made h in writes (list_made table records buffer) m.file m
+
+  -- the same of the first bytes that a list of so many rows takes
+  pub make_accepts_in : make_answer table (length buffer) records ≡ accepted k
       → Passes table
       × RegionListOf T (made_list) k
       × (list_answer table (made_list) ≡ accepted k)
       × (Reached T → ⊥)
-  make_accepts h =
-      let m = all_made h in (
-        m.passes,
-        record { rows = kept T; bytes = m.file; sized = m.sized; few = omega (arith, m.fits.0.0, m.sized); closed = m.closed },
-        ap (list_answer table) m.file ∙ closed_accepted table m.passes (kept T) m.closed m.fits.0.0 ∙ ap accepted m.sized,
-        sound T (kept T) m.closed,
-      )
+  make_accepts_in h = let m = all_made h in accepts made_list m.counted m
 
-  -- its file stands first in the buffer, is bytes, and "later buffer bytes stay"
-  pub make_writes : make_answer table (length buffer) records ≡ accepted k
+  pub make_writes_in : make_answer table (length buffer) records ≡ accepted k
       → AreBytes (made_list)
       × (make_buffer table records buffer ≡ made_list ++ drop (length (made_list)) buffer)
-  make_writes h =
-      let m = all_made h in
-      let (n, p) = m.passes in (
-        rw m.file (list_are_bytes T (admission_limits table n p) (kept T) m.closed.are_rows m.fits.0.0),
-        m.written ∙ (λ i. sym m.file i ++ drop (length (sym m.file i)) buffer),
-      )
+  make_writes_in h = let m = all_made h in writes made_list m.counted m
 
 pub make_few : (table : List ℕ) (room records k : ℕ) → make_answer table room records ≡ accepted k → k ≤ 4096
 unfolding make_answer
@@ -251,7 +275,7 @@ module _ (table : List ℕ) (records : ℕ) (buffer after : List ℕ) (a : Answe
       → Passes table
       × RegionListOf (table_of table) (list_in (table_of table) k after) k
       × (list_answer table (list_in (table_of table) k after) ≡ accepted k)
-  promises_list k h = let (p, file, is, _) = make_accepts table records buffer k (sym e ∙ h) in rw w (p, file, is)
+  promises_list k h = let (p, file, is, _) = make_accepts_in table records buffer k (sym e ∙ h) in rw w (p, file, is)
 
   pub promises_empty : (k : ℕ) → a ≡ accepted k → Reached (table_of table) → ⊥
   promises_empty k h = (make_accepts table records buffer k (sym e ∙ h)).3

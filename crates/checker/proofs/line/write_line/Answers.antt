@@ -1,6 +1,7 @@
 use Rattle.calls.specs.Text.{ascii}
-use Rattle.checker.specs.Verdict.{line_of, text_of}
-use Rattle.texts.proofs.Laws.Line.{newline, line_ended}
+use Rattle.checker.specs.Verdict.{line_of}
+use Rattle.checker.proofs.Laws.Line.{text_is}
+use Rattle.texts.proofs.Laws.Line.{line_ended}
 use borrow.Author.Rules.{rules}
 use lib.ListN.{length}
 use mathlib.Core.Path.{◌≡◌}
@@ -8,17 +9,15 @@ use native.Mathlib.Omega.{arith}
 use Rattle.checker.proofs.line.write_line.Goals as goal
 
 pub returns-clause-length : goal.returns-clause-length
-unfolding text_of
 returns-clause-length c =
     let long : length c.args.out.now ≡ 32 = search rules in
     let w = c.write_verdict-end in
     let e = line_ended c.args.out.now w.new.out (ascii (line_of c.args.verdict)) w.result w.ensures.length w.ensures.text (omega (arith, w.ensures.few)) in
-    rw (newline (line_of c.args.verdict)) e.0
+    rw (text_is c.args.verdict) e.0
 
 pub returns-clause-text : goal.returns-clause-text
-unfolding text_of
 returns-clause-text c =
     let long : length c.args.out.now ≡ 32 = search rules in
     let w = c.write_verdict-end in
     let e = line_ended c.args.out.now w.new.out (ascii (line_of c.args.verdict)) w.result w.ensures.length w.ensures.text (omega (arith, w.ensures.few)) in
-    rw (newline (line_of c.args.verdict)) e.1
+    rw (text_is c.args.verdict) e.1
