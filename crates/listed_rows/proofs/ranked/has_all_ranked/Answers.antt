@@ -27,10 +27,6 @@ pub row_is_beside-requires-clause-has_row : goal.row_is_beside-requires-clause-h
 row_is_beside-requires-clause-has_row c =
     let few = few_ranked _ _ _ c.requires.listed c.args.part (search rules) c.requires.in_range _ c.rankings_of.ensures in row_room _ _ _ _ c.requires.listed.room (omega (arith, few.0, c.if-count-end.false))
 
-pub returns-then-not-row_is_beside : goal.returns-then-not-row_is_beside
-returns-then-not-row_is_beside c =
-    λ t. never t
-
 pub returns : goal.returns
 returns c =
-    λ t. all_ranked c.args.clocks c.args.list.now c.args.count c.requires.listed c.requires.ascends (row_of c.args.clocks.count c.args.part) _ c.rows_below-first.ensures _ _ (ranked_ways _ _ _ c.requires.listed c.args.part (search rules) c.requires.in_range _ c.rankings_of.ensures) refl (omega (arith, c.if-count-end.false)) (sym c.row_is_beside.ensures ∙ c.if-not-row_is_beside.false)
+    λ t. all_ranked c.args.clocks c.args.list.now c.args.count c.requires.listed c.requires.ascends (row_of c.args.clocks.count c.args.part) _ c.rows_below-first.ensures _ _ (ranked_ways _ _ _ c.requires.listed c.args.part (search rules) c.requires.in_range _ c.rankings_of.ensures) refl (omega (arith, c.if-count-end.false)) (sym c.row_is_beside.ensures ∙ search rules)

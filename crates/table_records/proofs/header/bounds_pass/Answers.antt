@@ -1,5 +1,6 @@
 use Rattle.table_records.proofs.Laws.Loops.{none_tested, all_tested, one_passes, every_at}
 use Rattle.table_records.specs.Header.{low}
+use borrow.Author.Rules.{rules}
 use borrow.Author.Tests.{le-leb}
 use mathlib.Core.Path.{sym, ◌∙◌}
 use Rattle.table_records.proofs.header.bounds_pass.Goals as goal
@@ -10,7 +11,7 @@ loop-z-init c =
 
 pub loop-z-preserved : goal.loop-z-preserved
 loop-z-preserved c =
-    one_passes c.loop-z.invariant c.loop-z-test.true (le-leb _ _ c.if-bytes-z-gt127.false)
+    one_passes c.loop-z.invariant c.loop-z-test.true (le-leb _ _ (search rules))
 
 pub returns : goal.returns
 returns c =

@@ -54,7 +54,7 @@ overflow_add-head-then-e-file c =
 
 pub returns-then-e-file : goal.returns-then-e-file
 returns-then-e-file c =
-    opens_as _ _ (bytes_follow _ _ (begun c.args.file.now c.header-begun.result c.header-begun.ensures c.if-begun-ne0.false) c.locations-l.result c.locations-l.ensures c.if-l-ne0.false c.edges-e.result c.edges-e.ensures c.if-e-ne0.false c.if-e-file.true) c.refusal-then-e-file.ensures
+    opens_as _ _ (bytes_follow _ _ (begun c.args.file.now c.header-begun.result c.header-begun.ensures c.if-begun-ne0.false) c.locations-l.result c.locations-l.ensures c.if-l-ne0.false c.edges-e.result c.edges-e.ensures c.if-e-ne0.false (omega (arith, c.if-e-file.true))) c.refusal-then-e-file.ensures
 
 pub edges_bounded-b-requires-clause-count_bound : goal.edges_bounded-b-requires-clause-count_bound
 edges_bounded-b-requires-clause-count_bound c =
