@@ -195,32 +195,32 @@ held="($number|equal\b)"
       before=${before//[!,]/}
       printf '%s\n' "\b$name\((([^,()]|\([^()]*\))+,){${#before}} ?$number"
     done
-  # definitions: eqb cmp 2, ltb 2 cmp, cmp ≡ 2, 2 ≤ cmp, comparison = 2, comparison-of cmp keep = 2
+  # definitions: eqb cmp 2, ltb 2 cmp, cmp ≡ 2, 2 ≤ cmp, comparison = 2, comparison_of cmp keep = 2
   printf '%s\n' "\b(eqb|leb|ltb|compare) $it $held" "\b(eqb|leb|ltb|compare) $held $it" "$it (≡|≢|<|≤|>|≥) $held" "\b$held (≡|≢|<|≤|>|≥) $it" \
-    "$it = [1-9]" "\bcomparison-of [^:=]*= [0-9]"
+    "$it = [1-9]" "\bcomparison_of [^:=]*= [0-9]"
   # and a number where a definition has `cmp` among its arguments: holds 2 x y
   sed 's/--.*//' crates/*/specs/*.antt | awk '/=/ {
     for (i = 2; i < NF && $i != "="; i++) if ($i ~ /^(cmp|comparison)$/) printf "\\b%s( [^ ()]+| [(][^()]*[)]){%d} [0-9]\n", $1, i - 2
   }' | sort -u
 } > "$room/by-number"
-# by_number FILE: what it finds, in the text without comments, as one line, with `cmp` for u.comparison and (comparison-of ..), and `equal` for EQUAL
+# by_number FILE: what it finds, in the text without comments, as one line, with `cmp` for u.comparison and (comparison_of ..), and `equal` for EQUAL
 by_number() {
-  sed -E 's,(//|--).*,,' "$1" | tr -s ' \n' '  ' | sed -E 's/(\([^()]*\)|\b\w+)\.comparison\b/cmp/g; s/\(comparison-of ([^()]|\([^()]*\))*\)/cmp/g' |
+  sed -E 's,(//|--).*,,' "$1" | tr -s ' \n' '  ' | sed -E 's/(\([^()]*\)|\b\w+)\.comparison\b/cmp/g; s/\(comparison_of ([^()]|\([^()]*\))*\)/cmp/g' |
     sed -E 's/\b(\w+::)*EQUAL\b/equal/g' | grep -oE -f "$room/by-number"
 }
 # it is awake: it finds these, and not those
 for text in 'if update.comparison == 2 {' 'if (u.comparison as usize) != EQUAL {' 'if 3 <= comparison {' 'falling && comparison <= 1' 'comparison: 2,' \
   'if update.comparison == comparison::EQUAL {' 'if comparison::EQUAL as usize == (u.comparison as usize) {' 'comparison: comparison::AT_MOST,' \
   'match u.comparison {' 'comparison::holds(2, x, y)' 'comparison::holds(comparison::EQUAL, x, y)' 'comparison::answers_of(4)' 'is_at_alone(2)' \
-  'update_ends(clocks_of(e), a, 2, z, from)' 'settledb u = eqb (comparison-of u.comparison u.action) 2' 'ltb 2 u.comparison' \
-  'eqb (comparison-of u.comparison u.action) equal' 'eqb equal u.comparison' 'u.comparison ≡ equal' 'equal ≡ cmp' \
+  'update_ends(clocks_of(e), a, 2, z, from)' 'settledb u = eqb (comparison_of u.comparison u.action) 2' 'ltb 2 u.comparison' \
+  'eqb (comparison_of u.comparison u.action) equal' 'eqb equal u.comparison' 'u.comparison ≡ equal' 'equal ≡ cmp' \
   'eqb (get_or us z idle).comparison 2' 'equal ≡ u.comparison' \
-  'comparison-of cmp keep = 2' 'record { action = keep; comparison = 2 }' 'holds 2 x y' 'AllowedBy D (later d v) z x 2 keep' 'u.comparison ≡ 2'; do
+  'comparison_of cmp keep = 2' 'record { action = keep; comparison = 2 }' 'holds 2 x y' 'AllowedBy D (later d v) z x 2 keep' 'u.comparison ≡ 2'; do
   echo "$text" > "$room/text"
   if by_number "$room/text" > /dev/null; then ok; else bad "the search for a comparison's number passes over '$text'"; fi
 done
 for text in 'comparison: u8,' 'comparison: u.comparison,' 'comparison::holds(u.comparison, 1, 0)' 'holds u.comparison x (2 * k)' 'comparison = cmp;' \
-  'comparison: comparison::EQUAL,' 'comparison-of cmp keep = equal' 'update_ends(clocks, a, u.comparison, 0, from)' \
+  'comparison: comparison::EQUAL,' 'comparison_of cmp keep = equal' 'update_ends(clocks, a, u.comparison, 0, from)' \
   '// comparison == 2' 'AllowedBy D v z x cmp (constant 2)'; do
   echo "$text" > "$room/text"
   if found=$(by_number "$room/text"); then bad "the search for a comparison's number finds '$found'"; else ok; fi

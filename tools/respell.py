@@ -1,5 +1,5 @@
 #!/usr/bin/env python3
-"""Spells the repository's own definitions, lemmas and fields as Rattle does today: in snake case, facts in camel case.
+"""Spells the repository's own definitions, lemmas and fields, and what these bind, as Rattle does today: in snake case, facts in camel case.
 
 usage: tools/respell.py [FOLDER]         turns the checkout in FOLDER (without one: the one that this file stands in)
        tools/respell.py --names [FOLDER]    lists the names that FOLDER declares, spelled with a dash or with one of Rattle's older words
@@ -7,7 +7,8 @@ usage: tools/respell.py [FOLDER]         turns the checkout in FOLDER (without o
 The names are the rows of respelled.tsv beside this file: the old one, a tab, the new one. It goes by whole words, and turns
   .antt      the code, and what stands between backquotes in a comment
   .rt .edit  the same, but no string
-  .md        what stands between backquotes, and lines that are quoted (indented by four blanks)
+  .md        what stands between backquotes, and lines that are quoted (indented by four blanks); not tester/, whose pages speak of other code, and not
+             docs/PORT.md, which tells of the names
 A name that Rattle itself makes of the code stays: in a proof of a function the first name behind c, g, v or w. So does, in the whole file, a name that
 an item 'use' brings from a library that is not the repository's own.
 A second run changes nothing. It proves nothing: `rt check` does.
@@ -75,9 +76,9 @@ def respelled(path, text, names):
 
 def files(root):
     for folder, dirs, found in os.walk(root):
-        dirs[:] = sorted(d for d in dirs if d not in ("out", "target", "tools") and not d.startswith("."))
+        dirs[:] = sorted(d for d in dirs if d not in ("out", "target", "tester", "tools") and not d.startswith("."))
         for name in sorted(found):
-            if name.endswith((".antt", ".rt", ".edit", ".md")):
+            if name.endswith((".antt", ".rt", ".edit", ".md")) and name != "PORT.md":
                 yield os.path.join(folder, name)
 
 

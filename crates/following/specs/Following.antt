@@ -9,35 +9,35 @@ use Rattle.automata.specs.Next.{TimeSuccessor}
 use Rattle.automata.specs.Closed.{RowOf}
 use Rattle.automata.specs.Successors.{held, wait_rows, edge_rows}
 use Rattle.regions.specs.Values.{Few, bounds_of, row_of, found_of, edge_of}
-use Rattle.regions.specs.declared.region.Clocks as clocks-code
+use Rattle.regions.specs.declared.region.Clocks as clocks_code
 use Rattle.regions.specs.declared.region.Region.{Region}
 use Rattle.regions.specs.declared.region.Sought.{Sought}
-use Rattle.regions.specs.declared.edge.Edge as edge-code
+use Rattle.regions.specs.declared.edge.Edge as edge_code
 use Rattle.table_files.specs.Answer.{Answer, accepted, refused}
 use Rattle.calls.specs.RegionFile.{row_bytes, rows_bytes}
-use Rattle.following.specs.declared.follow.Followed as followed-code
+use Rattle.following.specs.declared.follow.Followed as followed_code
 
 -- "For each answer that is an enum, a definition gives this paper's number and values for each of the enum's cases"
-abbrev pub answer_of : followed-code.Followed → Answer
-answer_of (followed-code.TheVariants.Written count) = accepted count
-answer_of (followed-code.TheVariants.Refused number place) = refused number place
+abbrev pub answer_of : followed_code.Followed → Answer
+answer_of (followed_code.TheVariants.Written count) = accepted count
+answer_of (followed_code.TheVariants.Refused number place) = refused number place
 
 -- the region is one for these clocks, whose bounds are at most 127, so that its intervals are bytes
-pub record Stands (k : clocks-code.Clocks) (r : Region) : Type 0 where
+pub record Stands (k : clocks_code.Clocks) (r : Region) : Type 0 where
   pub few : Few k
   pub low : (z : ℕ) → z < k.count → at k.bounds z ≤ 127
   pub is_row : IsRow (bounds_of k) (row_of k.count r)
 
 -- the edge is one for these clocks
-pub record Leaves (k : clocks-code.Clocks) (e : edge-code.Edge) : Type 0 where
+pub record Leaves (k : clocks_code.Clocks) (e : edge_code.Edge) : Type 0 where
   pub few_guards : e.guard_count ≤ 8
   pub bounded : Bounded (bounds_of k) (edge_of k.count e)
 
 -- the next rows of a region, by waiting and by an edge
-abbrev pub rows_waited : clocks-code.Clocks → Region → List Row
+abbrev pub rows_waited : clocks_code.Clocks → Region → List Row
 rows_waited k r = wait_rows (bounds_of k) (row_of k.count r)
 
-abbrev pub rows_led : clocks-code.Clocks → edge-code.Edge → Region → List Row
+abbrev pub rows_led : clocks_code.Clocks → edge_code.Edge → Region → List Row
 rows_led k e r = edge_rows (bounds_of k) (edge_of k.count e) (row_of k.count r)
 
 -- the row that was found, or none

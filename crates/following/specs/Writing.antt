@@ -2,11 +2,11 @@
 use Rattle.std.specs.Prelude.{ℕ, ◌≤◌, ◌<◌, ◌≡◌, Bool, cond, List, [], ◌∷◌, ◌++◌, length, drop}
 use Rattle.automata.specs.Clocks.{at}
 use Rattle.automata.specs.Row.{Row}
-use Rattle.regions.specs.declared.region.Clocks as clocks-code
+use Rattle.regions.specs.declared.region.Clocks as clocks_code
 use Rattle.calls.specs.RegionFile.{rows_bytes}
 
 -- the bounds are those of a table file, so that intervals are bytes
-abbrev pub Low : clocks-code.Clocks → Type 0
+abbrev pub Low : clocks_code.Clocks → Type 0
 Low k = (z : ℕ) → z < k.count → at k.bounds z ≤ 127
 
 -- the buffer after is the buffer before with the rows written to its front

@@ -18,8 +18,8 @@ use Rattle.calls.specs.Making.{make_answer, make_buffer}
 use Rattle.listed_rows.specs.Listed.{listed_row, listed_rows, Listed}
 use Rattle.kept_rows.specs.Births.{birth}
 use Rattle.next_steps.specs.Steps.{plain, Settled, NewBy}
-use Rattle.making_turns.specs.declared.work.Work as work-code
-use Rattle.next_steps.specs.declared.stride.Stride as stride-code
+use Rattle.making_turns.specs.declared.work.Work as work_code
+use Rattle.next_steps.specs.declared.stride.Stride as stride_code
 
 -- a record of zeros
 abbrev pub blank : Region
@@ -63,23 +63,23 @@ Tied n out count ws = (i : ℕ) → i < count → row_of n (get_or ws (birth n o
 -- turns -----------------------------------------------------------------------------------------------------------------------------
 
 -- the answer of work that has ended: number 0 is no refusal, and then the count, which is far below 65,536
-abbrev pub told : work-code.Work → Answer
+abbrev pub told : work_code.Work → Answer
 told s = cond (eqb s.number 0) (accepted (s.count % 65536)) (refused s.number s.at)
 
 -- what is left to do: it falls with every turn
-unfoldable pub left : work-code.Work → ℕ
+unfoldable pub left : work_code.Work → ℕ
 left s = (4096 - s.count) * 100000 + (4096 - s.top) * 4 + (4096 - s.start) * 2 + cond s.walking 1 0 + cond s.going 1 0
 
 -- the waiting list once the row is stored that the turn before wanted to be
-abbrev pub stored : List Region → work-code.Work → List Region
+abbrev pub stored : List Region → work_code.Work → List Region
 stored ws s = set ws s.place s.row
 
 -- where the record of the step's edge begins
-abbrev pub Stands : List ℕ → work-code.Work → Type 0
+abbrev pub Stands : List ℕ → work_code.Work → Type 0
 Stands table s = (j : ℕ) → s.step ≡ suc j → s.here ≡ edge_start s.head.clocks.count s.head.locations table j
 
 -- work stands so, with these waiting rows: `before` is the buffer as it was lent, with so many waiting records
-pub record Standing (table before : List ℕ) (records : ℕ) (out : List ℕ) (ws : List Region) (s : work-code.Work) : Type 0 where
+pub record Standing (table before : List ℕ) (records : ℕ) (out : List ℕ) (ws : List Region) (s : work_code.Work) : Type 0 where
   pub describes : Describes table s.head
   pub grown : Grown (table_of table) s.head.clocks before out s.count s.start s.top s.step s.walking s.entered
   pub on : s.going ≡ true
@@ -97,7 +97,7 @@ pub record Standing (table before : List ℕ) (records : ℕ) (out : List ℕ) (
   pub tied : Tied s.head.clocks.count out s.count ws
 
 -- work goes on with this state, which asks for a row to be stored first
-pub record Working (table before : List ℕ) (records : ℕ) (out : List ℕ) (ws : List Region) (s : work-code.Work) : Type 0 where
+pub record Working (table before : List ℕ) (records : ℕ) (out : List ℕ) (ws : List Region) (s : work_code.Work) : Type 0 where
   pub standing : Standing table before records out (stored ws s) s
   pub sized : length ws ≡ records
   pub place_in : s.place < records
@@ -105,19 +105,19 @@ pub record Working (table before : List ℕ) (records : ℕ) (out : List ℕ) (w
   pub same_length : length out ≡ length before
 
 -- work has ended: the answer and the buffer are those of the definitions
-pub record Ended (table before : List ℕ) (records : ℕ) (out : List ℕ) (s : work-code.Work) : Type 0 where
+pub record Ended (table before : List ℕ) (records : ℕ) (out : List ℕ) (s : work_code.Work) : Type 0 where
   pub answer : told s ≡ make_answer table (length before) records
   pub buffer : out ≡ make_buffer table records before
 
 -- it goes on, or has ended
-pub record Loops (table before : List ℕ) (records : ℕ) (out : List ℕ) (ws : List Region) (s : work-code.Work) : Type 0 where
+pub record Loops (table before : List ℕ) (records : ℕ) (out : List ℕ) (ws : List Region) (s : work_code.Work) : Type 0 where
   pub goes : s.going ≡ true → Working table before records out ws s
   pub ends : s.going ≡ false → Ended table before records out s
 
 -- one after the other ------------------------------------------------------------------------------------------------------------------
 
 -- work begins with the initial row, which is the first to be stored and to be taken
-abbrev pub starting : Head → Region → work-code.Work
+abbrev pub starting : Head → Region → work_code.Work
 starting head x = record {
   going = true;
   place = 0;
@@ -138,7 +138,7 @@ starting head x = record {
 }
 
 -- a look for a new row has come so far
-abbrev pub went : work-code.Work → stride-code.Stride → work-code.Work
+abbrev pub went : work_code.Work → stride_code.Stride → work_code.Work
 went s q = record {
   going = s.going;
   place = s.place;
@@ -159,7 +159,7 @@ went s q = record {
 }
 
 -- the next row is followed
-abbrev pub next_row : work-code.Work → work-code.Work
+abbrev pub next_row : work_code.Work → work_code.Work
 next_row s = record {
   going = s.going;
   place = s.place;
@@ -180,7 +180,7 @@ next_row s = record {
 }
 
 -- the rows that were followed are walked, from the edge on whose record begins here
-abbrev pub to_walks : work-code.Work → ℕ → work-code.Work
+abbrev pub to_walks : work_code.Work → ℕ → work_code.Work
 to_walks s first = record {
   going = s.going;
   place = s.place;
@@ -201,7 +201,7 @@ to_walks s first = record {
 }
 
 -- those that were found since are followed
-abbrev pub to_rows : work-code.Work → work-code.Work
+abbrev pub to_rows : work_code.Work → work_code.Work
 to_rows s = record {
   going = s.going;
   place = s.place;
@@ -222,7 +222,7 @@ to_rows s = record {
 }
 
 -- a row is added, which the next turn stores
-abbrev pub adding : work-code.Work → Region → work-code.Work
+abbrev pub adding : work_code.Work → Region → work_code.Work
 adding s x = record {
   going = s.going;
   place = s.count;
@@ -243,7 +243,7 @@ adding s x = record {
 }
 
 -- work ends with a refusal
-abbrev pub refusing : work-code.Work → ℕ → ℕ → work-code.Work
+abbrev pub refusing : work_code.Work → ℕ → ℕ → work_code.Work
 refusing s number place = record {
   going = false;
   place = s.place;
@@ -264,7 +264,7 @@ refusing s number place = record {
 }
 
 -- work ends with a list
-abbrev pub ending : work-code.Work → work-code.Work
+abbrev pub ending : work_code.Work → work_code.Work
 ending s = record {
   going = false;
   place = s.place;

@@ -8,7 +8,7 @@ use Rattle.automata.specs.Checks.{every, has}
 use Rattle.regions.specs.Image.{deterministic}
 use Rattle.regions.specs.Values.{row_of}
 use Rattle.regions.specs.declared.region.Sought.{Sought}
-use Rattle.next_steps.specs.declared.stride.Stride as stride-code
+use Rattle.next_steps.specs.declared.stride.Stride as stride_code
 
 -- the rows that are due by a step
 abbrev pub due : Table → ℕ → Row → List Row
@@ -44,7 +44,7 @@ pub record Asks (T : Table) (rows : List Row) (n m : ℕ) (r : Row) (entered : B
   pub enters : entered' ≡ true → (entered ≡ true) ⊎ ((s : Row) × Mem s (due T m r) × (into_final T m ≡ true))
 
 -- all plain steps from a row, from one on, up to the first by which something new is found
-pub record Follows (T : Table) (rows : List Row) (n step : ℕ) (r : Row) (entered : Bool) (q : stride-code.Stride) : Type 0 where
+pub record Follows (T : Table) (rows : List Row) (n step : ℕ) (r : Row) (entered : Bool) (q : stride_code.Stride) : Type 0 where
   pub on : step ≤ q.step
   pub settled : (m : ℕ) → step ≤ m → m < q.step → plain T m ≡ true → Settled T rows q.entered m r
   pub all : q.next.found ≡ false → q.step ≡ suc (length T.edges)
@@ -54,7 +54,7 @@ pub record Follows (T : Table) (rows : List Row) (n step : ℕ) (r : Row) (enter
   pub enters : q.entered ≡ true → (entered ≡ true) ⊎ ((m : ℕ) × (m ≤ length T.edges) × (s : Row) × Mem s (due T m r) × (into_final T m ≡ true))
 
 -- all other steps from all rows, from one on, up to the first by which something new is found
-pub record Walks (T : Table) (rows : List Row) (n step : ℕ) (q : stride-code.Stride) : Type 0 where
+pub record Walks (T : Table) (rows : List Row) (n step : ℕ) (q : stride_code.Stride) : Type 0 where
   pub on : step ≤ q.step
   pub settled : (m : ℕ) → step ≤ m → m < q.step → plain T m ≡ false → (r : Row) → Mem r rows → every (has rows) (due T m r) ≡ true
   pub all : q.next.found ≡ false → q.step ≡ suc (length T.edges)

@@ -9,13 +9,13 @@ use Rattle.skylines.specs.Skyline.{member}
 use Rattle.regions.specs.Values.{bounds_of, row_of}
 use Rattle.regions.specs.declared.region.Clocks.{Clocks}
 use Rattle.regions.specs.declared.region.Region.{Region}
-use Rattle.regions.specs.declared.edge.Edge as edge-code
+use Rattle.regions.specs.declared.edge.Edge as edge_code
 use Rattle.listed_rows.specs.Listed.{listed_rows}
 use Rattle.selection.specs.Chosen.{Sits, taken_at}
 use Rattle.walked_rows.specs.Open.{Inside}
 
 -- a region is one of the edge's target that the list lacks
-pub record Lacked (k : Clocks) (list : List ℕ) (count : ℕ) (e : edge-code.Edge) (v : Region) : Type 0 where
+pub record Lacked (k : Clocks) (list : List ℕ) (count : ℕ) (e : edge_code.Edge) (v : Region) : Type 0 where
   pub is_row : IsRow (bounds_of k) (row_of k.count v)
   pub located : v.location ≡ e.target
   pub missing : has (listed_rows k.count list count) (row_of k.count v) ≡ false

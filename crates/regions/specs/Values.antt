@@ -4,22 +4,22 @@ use Rattle.std.proofs.Math.Option.{Option, none, some}
 use Rattle.automata.specs.Clocks.{at}
 use Rattle.automata.specs.Row.{Row}
 use Rattle.automata.specs.Edge.{Guard, Action, keep, constant, clock, Update, Edge}
-use Rattle.regions.specs.declared.region.Clocks as clocks-code
+use Rattle.regions.specs.declared.region.Clocks as clocks_code
 use Rattle.regions.specs.declared.region.Region.{Region}
 use Rattle.regions.specs.declared.region.Sought.{Sought}
-use Rattle.regions.specs.declared.edge.Guard as guard-code
-use Rattle.regions.specs.declared.edge.Action as action-code
-use Rattle.regions.specs.declared.edge.Update as update-code
-use Rattle.regions.specs.declared.edge.Edge as edge-code
+use Rattle.regions.specs.declared.edge.Guard as guard_code
+use Rattle.regions.specs.declared.edge.Action as action_code
+use Rattle.regions.specs.declared.edge.Update as update_code
+use Rattle.regions.specs.declared.edge.Edge as edge_code
 
 -- clocks ------------------------------------------------------------------------------------------------------------------------
 
 -- the bounds, one a clock
-abbrev pub bounds_of : clocks-code.Clocks → List ℕ
+abbrev pub bounds_of : clocks_code.Clocks → List ℕ
 bounds_of k = take k.count k.bounds
 
 -- at most four clocks, with bounds whose intervals are numbers of two bytes: the rules do not ask for the file's limit of 127
-pub record Few (k : clocks-code.Clocks) : Type 0 where
+pub record Few (k : clocks_code.Clocks) : Type 0 where
   pub few : k.count ≤ 4
   pub low : (z : ℕ) → at k.bounds z ≤ 16383
 
@@ -53,19 +53,19 @@ found_of n s = by s.found
 -- edges -------------------------------------------------------------------------------------------------------------------------
 
 -- the guard, the update and what it does, field by field
-abbrev pub guard_of : guard-code.Guard → Guard
+abbrev pub guard_of : guard_code.Guard → Guard
 guard_of g = record { clock = g.clock; comparison = g.comparison; constant = g.constant }
 
-abbrev pub action_of : action-code.Action → Action
-action_of action-code.TheVariants.Keep = keep
-action_of (action-code.TheVariants.Constant k) = constant k
-action_of (action-code.TheVariants.Clock y up down) = clock y up down
+abbrev pub action_of : action_code.Action → Action
+action_of action_code.TheVariants.Keep = keep
+action_of (action_code.TheVariants.Constant k) = constant k
+action_of (action_code.TheVariants.Clock y up down) = clock y up down
 
-abbrev pub update_of : update-code.Update → Update
+abbrev pub update_of : update_code.Update → Update
 update_of u = record { action = action_of u.action; comparison = u.comparison }
 
 -- the edge of n clocks
-abbrev pub edge_of : ℕ → edge-code.Edge → Edge
+abbrev pub edge_of : ℕ → edge_code.Edge → Edge
 edge_of n e = record {
   source = e.source;
   target = e.target;

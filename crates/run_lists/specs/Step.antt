@@ -7,21 +7,21 @@ use Rattle.automata.specs.Edge.{Guard, Edge, ActionIn}
 use Rattle.automata.specs.Point.{later}
 use Rattle.automata.specs.Run.{State, Move}
 use Rattle.regions.specs.Values.{action_of}
-use Rattle.regions.specs.declared.edge.Edge as edge-code
-use Rattle.regions.specs.declared.edge.Guard as guard-code
-use Rattle.regions.specs.declared.edge.Update as update-code
+use Rattle.regions.specs.declared.edge.Edge as edge_code
+use Rattle.regions.specs.declared.edge.Guard as guard_code
+use Rattle.regions.specs.declared.edge.Update as update_code
 use Rattle.table_files.specs.Bytes.{two, four}
 use Rattle.table_files.specs.Reading.{Read, good, bad, Reader, carry, ◌>>◌, done, require}
 use Rattle.calls.specs.RunFile.{guardedb, allowedb}
-use Rattle.run_lists.specs.declared.step.State as state-code
+use Rattle.run_lists.specs.declared.step.State as state_code
 
 -- an edge of the code over n clocks: every clock that it names is one of them, and no guard is missing
-pub record Names (n : ℕ) (e : edge-code.Edge) : Type 0 where
+pub record Names (n : ℕ) (e : edge_code.Edge) : Type 0 where
   pub few : e.guard_count ≤ 8
   pub guards_length : length e.guards ≡ 8
   pub updates_length : length e.updates ≡ 4
-  pub guards : (i : ℕ) → i < e.guard_count → (d : guard-code.Guard) → (get_or e.guards i d).clock < n
-  pub updates : (z : ℕ) → z < n → (d : update-code.Update) → ActionIn n (action_of (get_or e.updates z d).action)
+  pub guards : (i : ℕ) → i < e.guard_count → (d : guard_code.Guard) → (get_or e.guards i d).clock < n
+  pub updates : (z : ℕ) → z < n → (d : update_code.Update) → ActionIn n (action_of (get_or e.updates z d).action)
 
 -- whether a guard holds of the values after the wait
 abbrev pub guard_passes : ℕ → List ℕ → Guard → Bool
@@ -36,11 +36,11 @@ abbrev pub move_of : ℕ → List ℕ → Move
 move_of n b = record { number = two b 2; delay = four b 4; values = each n (value_in b) }
 
 -- the location, and the values of n clocks
-abbrev pub point_of : ℕ → state-code.State → State
+abbrev pub point_of : ℕ → state_code.State → State
 point_of n s = record { location = s.location; values = take n s.values }
 
 -- the state after the steps so far, or the first refusal among them
-abbrev pub state_of : ℕ → state-code.State → Read State
+abbrev pub state_of : ℕ → state_code.State → Read State
 state_of n s = cond (eqb s.number 0) (good (point_of n s) []) (bad s.number s.place)
 
 -- the first of 10, 11 and 12 that applies, or 0

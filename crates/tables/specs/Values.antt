@@ -6,14 +6,14 @@ use Rattle.table_files.specs.Answer.{Answer, accepted, refused}
 use Rattle.table_files.specs.Reading.{Read, good, bad}
 use Rattle.table_files.specs.Admission.{admitted, table_of}
 use Rattle.table_files.specs.Meaning.{Passes}
-use Rattle.tables.specs.declared.answer.Answer as answer-code
+use Rattle.tables.specs.declared.answer.Answer as answer_code
 use Rattle.table_records.specs.declared.head.Head.{Head}
 use Rattle.table_records.specs.declared.head.Opened.{Opened}
 
 -- "For each answer that is an enum, a definition gives this paper's number and values for each of the enum's cases"
-abbrev pub answer_of : answer-code.Answer → Answer
-answer_of (answer-code.TheVariants.Accepted count) = accepted count
-answer_of (answer-code.TheVariants.Refused number place) = refused number place
+abbrev pub answer_of : answer_code.Answer → Answer
+answer_of (answer_code.TheVariants.Accepted count) = accepted count
+answer_of (answer_code.TheVariants.Refused number place) = refused number place
 
 -- the file is admitted, and these are its table's clocks and counts
 pub record Describes (file : List ℕ) (h : Head) : Type 0 where

@@ -5,13 +5,13 @@ use Rattle.automata.specs.Closed.{Ascends}
 use Rattle.automata.specs.Successors.{guardsb, edge_rows}
 use Rattle.regions.specs.Values.{bounds_of, edge_of}
 use Rattle.regions.specs.declared.region.Clocks.{Clocks}
-use Rattle.regions.specs.declared.edge.Edge as edge-code
+use Rattle.regions.specs.declared.edge.Edge as edge_code
 use Rattle.listed_rows.specs.Listed.{listed_row, listed_rows, Listed}
 use Rattle.selection.specs.Chosen.{taken_at}
 use Rattle.walked_rows.specs.Open.{Inside}
 
 -- an ascending list and an edge, both for these clocks
-pub record Suited (k : Clocks) (list : List ℕ) (count : ℕ) (e : edge-code.Edge) : Type 0 where
+pub record Suited (k : Clocks) (list : List ℕ) (count : ℕ) (e : edge_code.Edge) : Type 0 where
   pub listed : Listed k list count
   pub ascends : Ascends (listed_rows k.count list count)
   pub few_guards : e.guard_count ≤ 8

@@ -67,7 +67,7 @@ kept D t c j k g x j' k' (stays o ej ek) i o' = absurd (o (omega arith))
 
 -- the row ----------------------------------------------------------------------------------------------------------------------
 
-module _ (c : List ℕ) (r : Row) (row : IsRow c r) (some-open : 0 < greatest r.ranks) where
+module _ (c : List ℕ) (r : Row) (row : IsRow c r) (some_open : 0 < greatest r.ranks) where
   abbrev View : ℕ → Type 0
   View z = Arriving (at c z) (at r.intervals z) (at r.ranks z) (greatest r.ranks) (at (arrived c r).intervals z) (at (arrived c r).ranks z)
 
@@ -78,7 +78,7 @@ module _ (c : List ℕ) (r : Row) (row : IsRow c r) (some-open : 0 < greatest r.
         at_each (length c) (λ (z : ℕ). arrive_interval (greatest r.ranks) (at r.intervals z) (at r.ranks z)) z h,
         at_each (length c) (λ (z : ℕ). arrive_rank (greatest r.ranks) (at r.ranks z)) z h,
       )
-      (arriving (at c z) (at r.intervals z) (at r.ranks z) (greatest r.ranks) some-open (at_greatest r.ranks z)
+      (arriving (at c z) (at r.intervals z) (at r.ranks z) (greatest r.ranks) some_open (at_greatest r.ranks z)
       (open_or_not (at c z) (at r.intervals z)) (row.rank_open z h) (row.rank_shut z h))
 
   -- a wait after which w, a clock of greatest rank, is at its next whole value

@@ -77,8 +77,8 @@ module _ (T : Table) where
 
       pick : Outside r → (Mem a (keep T more rows) → (Mem a more × Outside a) ⊎ Mem a rows) → (a ≡ r) ⊎ Mem a (keep T more rows)
           → (Mem a (r ∷ more) × Outside a) ⊎ Mem a rows
-      pick o further-on (inl e) = inl (Memᴰ.head e, rw e o)
-      pick o further-on (inr k) = others (further-on k)
+      pick o further_on (inl e) = inl (Memᴰ.head e, rw e o)
+      pick o further_on (inr k) = others (further_on k)
 
   -- their next rows, once ------------------------------------------------------------------------------------------------------------------
 
@@ -252,8 +252,8 @@ module _ (T : Table) where
 
   -- whoever notes just that knows what the test says
   pub enters_is : length (kept T) ≤ 4096 → (noted : Bool) → (noted ≡ true → Entered T) → (noted ≡ false → Entered T → ⊥) → enters T (kept T) ≡ noted
-  enters_is few true it-is it-is-not = (enters_law few).1 (it-is refl)
-  enters_is few false it-is it-is-not = fails _ (enters_law few) (it-is-not refl)
+  enters_is few true it_is it_is_not = (enters_law few).1 (it_is refl)
+  enters_is few false it_is it_is_not = fails _ (enters_law few) (it_is_not refl)
 
   -- none is entered where a list with all kept rows has no next row in one
   pub not_entered : (rows : List Row) → ((r : Row) → Kept T r → Mem r rows) → final T T.initial ≡ false
@@ -290,7 +290,7 @@ module _ (T : Table) where
     module _ (few : length (kept T) ≤ 4096) where
       -- if none is entered, the kept rows are closed
       pub kept_closed : enters T (kept T) ≡ false → Closed T (kept T)
-      kept_closed never-entered = record {
+      kept_closed never_entered = record {
         ascends = kept_ascends;
         are_rows = λ r m. kept_row (kept_sound r m);
         starts = kept_complete few (first_row T) (begun (fails _ (λ e. e, λ e. e) (λ e. out (at_once e))));
@@ -300,7 +300,7 @@ module _ (T : Table) where
       }
         where
           out : Entered T → ⊥
-          out h = never (sym never-entered ∙ (enters_law few).1 h)
+          out h = never (sym never_entered ∙ (enters_law few).1 h)
 
           follow : (r r' : Row) → Mem r (kept T) → Next T r r' → Mem r' (kept T)
           follow r r' m n =

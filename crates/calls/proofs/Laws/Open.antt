@@ -26,10 +26,10 @@ not_every {A} p (x ∷ xs) h = go (p x) refl h (not_every p xs)
     go true e k on = let (a, m, f) = on k in (a, Memᴰ.tail m, f)
     go false e k on = (x, Memᴰ.head refl, e)
 
-pub get_d_any : {A : Type 0} (xs : List A) (i : ℕ) → i < length xs → (d d' : A) → get_or xs i d ≡ get_or xs i d'
-get_d_any [] i h d d' = absurd (omega arith)
-get_d_any (x ∷ xs) zero h d d' = refl
-get_d_any (x ∷ xs) (suc i) h d d' = get_d_any xs i (omega arith) d d'
+pub get_or_any : {A : Type 0} (xs : List A) (i : ℕ) → i < length xs → (d d' : A) → get_or xs i d ≡ get_or xs i d'
+get_or_any [] i h d d' = absurd (omega arith)
+get_or_any (x ∷ xs) zero h d d' = refl
+get_or_any (x ∷ xs) (suc i) h d d' = get_or_any xs i (omega arith) d d'
 
 module _ (T : Table) (rows : List Row) where
   abbrev pub full : Row → Bool

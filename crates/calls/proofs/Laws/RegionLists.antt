@@ -27,7 +27,7 @@ use Rattle.calls.specs.Meaning.{RegionListOf, Lacks, OpenListOf}
 use Rattle.table_files.proofs.Laws.Reading.{not_good, cons_all, parts, tested, goes, passes}
 use Rattle.table_files.proofs.Laws.Admission.{read_admitted, admission_read, read_admission, admission_admitted}
 use Rattle.calls.proofs.Laws.Refusals.{Tame, not_bad, answered_good, answered_bad, tame_admitted, tame_region_file, tame_ascending, tame_none_final}
-use Rattle.calls.proofs.Laws.Open.{not_every, get_d_any, full, full_law, all_full, full_passes, LeastOpen, least_refused, refused_least}
+use Rattle.calls.proofs.Laws.Open.{not_every, get_or_any, full, full_law, all_full, full_passes, LeastOpen, least_refused, refused_least}
 use Rattle.calls.proofs.Laws.Rows.{RowsRead, rows_read_law, file_back}
 
 -- 14 to 16 -------------------------------------------------------------------------------------------------------------------
@@ -122,7 +122,7 @@ module _ (T : Table) (A : Admitted T) (rows : List Row) (are_rows : (r : Row) �
             place_is = refl;
             number_in = l;
             row = r;
-            row_is = λ d'. get_d_any rows i l d' d;
+            row_is = λ d'. get_or_any rows i l d' d;
             next = r';
             leads = (next_law r r' (get_or_in rows i d l)).0 k;
             missing = refutes (has rows r') (has_law rows r') n;

@@ -20,7 +20,7 @@ use Rattle.edge_walk.specs.Choice.{allowsb, Ready}
 use Rattle.edge_walk.specs.Way.{way_rows}
 use Rattle.regions.specs.declared.region.Clocks.{Clocks}
 use Rattle.regions.specs.declared.region.Region.{Region}
-use Rattle.regions.specs.declared.edge.Edge as edge-code
+use Rattle.regions.specs.declared.edge.Edge as edge_code
 use Rattle.regions.specs.declared.placing.Moves.{Moves}
 use Rattle.edge_walk.specs.declared.choice.Search.{Search}
 use Rattle.edge_walk.specs.declared.way.Way.{Way}
@@ -67,7 +67,7 @@ move_top c r z u = go u.action
 -- the code's way --------------------------------------------------------------------------------------------------------------------------
 
 module _ (k : Clocks) (few : Few k) (four : length k.bounds ≡ 4) (v : Region) (row : IsRow (bounds_of k) (row_of k.count v))
-    (d : edge-code.Edge) (B : Bounded (bounds_of k) (edge_of k.count d)) where
+    (d : edge_code.Edge) (B : Bounded (bounds_of k) (edge_of k.count d)) where
   abbrev n : ℕ
   n = k.count
 

@@ -21,10 +21,10 @@ use Rattle.edge_walk.specs.Choice.{Ready}
 use Rattle.edge_walk.specs.Way.{way_rows}
 use Rattle.edge_walk.specs.declared.way.Way.{Way}
 use Rattle.regions.specs.Values.{Few, bounds_of, row_of, edge_of, sought, found_of}
-use Rattle.regions.specs.declared.region.Clocks as clocks-code
+use Rattle.regions.specs.declared.region.Clocks as clocks_code
 use Rattle.regions.specs.declared.region.Region.{Region}
 use Rattle.regions.specs.declared.region.Sought.{Sought}
-use Rattle.regions.specs.declared.edge.Edge as edge-code
+use Rattle.regions.specs.declared.edge.Edge as edge_code
 use Rattle.automata.proofs.Laws.Tests.{never, true_or_false, eqb_law, leb_law, and_law, says, same_test}
 use Rattle.automata.proofs.Laws.Waiting.{wait_row}
 use Rattle.automata.proofs.Laws.Successors.{edge_rows_law}
@@ -60,7 +60,7 @@ rows_long n (r ∷ rows) h =
     suc_mul' : (a b : ℕ) → suc a * b ≡ b + a * b
     suc_mul' a b = omega (arith, suc-mul a b)
 
-module _ (k : clocks-code.Clocks) (four : length k.bounds ≡ 4) (few : Few k) (low : Low k) where
+module _ (k : clocks_code.Clocks) (four : length k.bounds ≡ 4) (few : Few k) (low : Low k) where
   bounds_long : length (bounds_of k) ≡ k.count
   bounds_long = length-take-le k.count k.bounds (omega (arith, few.few))
 
@@ -151,8 +151,8 @@ module _ (n : ℕ) (next : Sought) where
 
 -- the rows of an edge and of a wait ----------------------------------------------------------------------------------------------
 
-module _ (k : clocks-code.Clocks) (four : length k.bounds ≡ 4) (r : Region) (S : Stands k r) where
-  pub led_sized : (e : edge-code.Edge) → Leaves k e → (s : Row) → Mem s (rows_led k e r) → Sized k.count s
+module _ (k : clocks_code.Clocks) (four : length k.bounds ≡ 4) (r : Region) (S : Stands k r) where
+  pub led_sized : (e : edge_code.Edge) → Leaves k e → (s : Row) → Mem s (rows_led k e r) → Sized k.count s
   led_sized e E s m = row_sized k four S.few S.low s ((edge_rows_law (bounds_of k) (edge_of k.count e) (row_of k.count r) s S.is_row E.bounded).0 m).is_row
 
   -- by waiting
@@ -179,7 +179,7 @@ module _ (k : clocks-code.Clocks) (four : length k.bounds ≡ 4) (r : Region) (S
             here (inr j) = absurd (Memᴰ.not-nil j)
 
   -- by an edge that cannot be taken
-  pub no_image : (e : edge-code.Edge) → Leaves k e → eqb r.location e.source && guardsb (row_of k.count r) (edge_of k.count e).guards ≡ false
+  pub no_image : (e : edge_code.Edge) → Leaves k e → eqb r.location e.source && guardsb (row_of k.count r) (edge_of k.count e).guards ≡ false
       → (next : Sought) → next ≡ sought none → rows_led k e r ≡ row_found k.count next
   no_image e E f next g =
       let w : Way = record { leads = false; target = 0; search = record { clocks = k; moves = record { ranks = 0; each = [] } } } in

@@ -16,7 +16,7 @@ use Rattle.automata.specs.Closed.{Mem}
 use Rattle.automata.specs.Automaton.{Table, clocks, edge}
 use Rattle.automata.specs.Successors.{wait_rows, edge_rows}
 use Rattle.regions.specs.Values.{row_of, edge_of}
-use Rattle.regions.specs.declared.edge.Edge as edge-code
+use Rattle.regions.specs.declared.edge.Edge as edge_code
 use Rattle.automata.proofs.Laws.Tests.{eqb_law, ltb_law, or_law}
 use Rattle.automata.proofs.Laws.Next.{time_successors_are, edge_successors_are}
 use Rattle.table_files.specs.Answer.{Answer, accepted, refused}
@@ -192,7 +192,7 @@ module _ (table row : List ℕ) (number : ℕ) (buffer : List ℕ) where
               rw (eq-eqb number 65535 n) ((λ i. wait_rows (D.bounds i) (row_of (D.count i) r.region)) ∙ sym (time_successors_are T from)) in
               done_so answer after ((or_law _ _ (ltb_law number (length T.edges)) (eqb_law number 65535)).1 (inr n)) (rw same at d)
 
-          module _ (e : edge-code.Edge) (l : number < head.edges) (m : edge_of head.clocks.count e ≡ edge T number) where
+          module _ (e : edge_code.Edge) (l : number < head.edges) (m : edge_of head.clocks.count e ≡ edge T number) where
             pub leaves : e.guard_count ≤ 8 → Leaves head.clocks e
             leaves g = record { few_guards = g; bounded = rw (m, D.bounds) (let (k, p) = D.passes in (admission_admitted table k p).bounded number (omega (arith, D.edges))) }
 

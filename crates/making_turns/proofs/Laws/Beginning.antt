@@ -35,7 +35,7 @@ use Rattle.listed_rows.proofs.Laws.Listed.{in_listed}
 use Rattle.kept_rows.specs.Births.{birth}
 use Rattle.kept_rows.specs.Inserted.{SameRow, Inserted}
 use Rattle.kept_rows.proofs.Laws.Inserted.{inserted_births, inserted_low, inserted_born, inserted_mem, inserted_ascends, inserted_listed}
-use Rattle.making_turns.specs.declared.work.Work as work-code
+use Rattle.making_turns.specs.declared.work.Work as work_code
 use Rattle.making_turns.specs.Work.{blank, told, Followed, Walked, Grown, Tied, Ended, Loops, starting, refusing}
 use Rattle.automata.proofs.Laws.Kept.{kept_row, kept_is, enters_says}
 use Rattle.calls.proofs.Laws.Making.{Fits, list_bytes_length, make_refused, make_short, make_overfull, make_entered, make_told}
@@ -58,7 +58,7 @@ module _ (table : List ℕ) (o : Opened) (h : Opens table o) where
 
 -- work that ends before it has begun ----------------------------------------------------------------------------------------------------------
 
-module _ (table before : List ℕ) (records : ℕ) (s : work-code.Work) where
+module _ (table before : List ℕ) (records : ℕ) (s : work_code.Work) where
   -- with what the definitions refuse
   refused_ends : (number place : ℕ) → (number ≡ 0 → ⊥) → making table (length before) records ≡ bad number place
       → Ended table before records (replicate (length before) 0) (refusing s number place)
@@ -74,10 +74,10 @@ module _ (table before : List ℕ) (records : ℕ) (s : work-code.Work) where
   loops_not ws number place n e = record { goes = λ g. never g; ends = λ _. refused_ends number place n e }
 
   -- the buffer is cleared, and the state is that
-  pub refused_as : (ws : List Region) (number place : ℕ) (out : List ℕ) → out ≡ replicate (length before) 0 → (q : work-code.Work) → q ≡ refusing s number place
+  pub refused_as : (ws : List Region) (number place : ℕ) (out : List ℕ) → out ≡ replicate (length before) 0 → (q : work_code.Work) → q ≡ refusing s number place
       → Loops table before records (replicate (length before) 0) ws (refusing s number place) → Loops table before records out ws q
   refused_as ws number place out cleared q e L =
-      subst (λ (z : work-code.Work). Loops table before records out ws z) (sym e)
+      subst (λ (z : work_code.Work). Loops table before records out ws z) (sym e)
       (subst (λ (l : List ℕ). Loops table before records l ws (refusing s number place)) (sym cleared) L)
 
   -- the table's own refusals

@@ -23,7 +23,7 @@ use Rattle.table_files.proofs.Laws.Admission.{admission_read}
 use Rattle.calls.specs.RegionFile.{row_width, list_bytes}
 use Rattle.listed_rows.specs.Listed.{listed_rows}
 use Rattle.listed_rows.proofs.Laws.Listed.{listed_length}
-use Rattle.making_turns.specs.declared.work.Work as work-code
+use Rattle.making_turns.specs.declared.work.Work as work_code
 use Rattle.making_turns.specs.Work.{told, Standing, Ended, Loops, refusing, ending, Comes}
 use Rattle.automata.proofs.Laws.Insert.{insert_ascends, insert_out, insert_length}
 use Rattle.automata.proofs.Laws.Kept.{kept_row}
@@ -33,7 +33,7 @@ use Rattle.making_turns.proofs.Laws.Adding.{comes_kept}
 use Rattle.making_turns.proofs.Laws.Standing.{edges_are, grown_as}
 use Rattle.making_turns.proofs.Laws.Turning.{is_admitted}
 
-module _ (table before : List ℕ) (records : ℕ) (out : List ℕ) (ws : List Region) (s : work-code.Work) (S : Standing table before records out ws s) where
+module _ (table before : List ℕ) (records : ℕ) (out : List ℕ) (ws : List Region) (s : work_code.Work) (S : Standing table before records out ws s) where
   abbrev T : Table
   T = table_of table
 
@@ -147,12 +147,12 @@ pub short_before : (count w : ℕ) (out before : List ℕ) → length out ≡ le
 short_before count w out before e (inl h) = inl h
 short_before count w out before e (inr h) = inr (rw e at h)
 
-module _ (table before : List ℕ) (records : ℕ) (out : List ℕ) (ws : List Region) (s : work-code.Work) where
-  pub refused_loops : (number : ℕ) (q : work-code.Work) → q ≡ refusing s number 0 → (out₀ : List ℕ) → out ≡ replicate (length out₀) 0 → length out₀ ≡ length before
+module _ (table before : List ℕ) (records : ℕ) (out : List ℕ) (ws : List Region) (s : work_code.Work) where
+  pub refused_loops : (number : ℕ) (q : work_code.Work) → q ≡ refusing s number 0 → (out₀ : List ℕ) → out ≡ replicate (length out₀) 0 → length out₀ ≡ length before
       → Ended table before records (replicate (length before) 0) (refusing s number 0) → Loops table before records out ws q
   refused_loops number q e out₀ cleared same E =
-      subst (λ (z : work-code.Work). Loops table before records out ws z) (sym e)
+      subst (λ (z : work_code.Work). Loops table before records out ws z) (sym e)
       (subst (λ (l : List ℕ). Loops table before records l ws (refusing s number 0)) (sym (cleared ∙ ap (λ (k : ℕ). replicate k 0) same)) (record { goes = λ g. never g; ends = λ _. E }))
 
-  pub ended_loops : (q : work-code.Work) → q ≡ ending s → Ended table before records out (ending s) → Loops table before records out ws q
-  ended_loops q e E = subst (λ (z : work-code.Work). Loops table before records out ws z) (sym e) (record { goes = λ g. never g; ends = λ _. E })
+  pub ended_loops : (q : work_code.Work) → q ≡ ending s → Ended table before records out (ending s) → Loops table before records out ws q
+  ended_loops q e E = subst (λ (z : work_code.Work). Loops table before records out ws z) (sym e) (record { goes = λ g. never g; ends = λ _. E })

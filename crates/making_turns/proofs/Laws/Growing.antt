@@ -18,7 +18,7 @@ use Rattle.regions.specs.declared.region.Clocks.{Clocks}
 use Rattle.listed_rows.specs.Listed.{listed_row, listed_rows}
 use Rattle.listed_rows.proofs.Laws.Listed.{listed_length, listed_in, in_listed}
 use Rattle.kept_rows.specs.Births.{birth}
-use Rattle.next_steps.specs.declared.stride.Stride as stride-code
+use Rattle.next_steps.specs.declared.stride.Stride as stride_code
 use Rattle.next_steps.specs.Steps.{due, into_final, plain, Settled, Follows, Walks}
 use Rattle.making_turns.specs.Work.{Followed, Walked, Grown}
 use Rattle.automata.proofs.Laws.Kept.{kept_outside, kept_within, kept_is, enters_says}
@@ -36,7 +36,7 @@ module _ (T : Table) (k : Clocks) (before out : List ℕ) (count start top step 
 
   -- the row at the top is followed further ---------------------------------------------------------------------------------------------------
 
-  module _ (G : Grown T k before out count start top step false e) (r : Row) (tied : (i : ℕ) → i < count → born i ≡ top → row i ≡ r) (q : stride-code.Stride)
+  module _ (G : Grown T k before out count start top step false e) (r : Row) (tied : (i : ℕ) → i < count → born i ≡ top → row i ≡ r) (q : stride_code.Stride)
       (F : Follows T rows k.count step r e q) where
     -- the row at the top is one of the kept rows
     pub top_listed : Mem r rows
@@ -145,7 +145,7 @@ module _ (T : Table) (k : Clocks) (before out : List ℕ) (count start top step 
   -- the rows are walked further -----------------------------------------------------------------------------------------------------------------
 
   module _ (G : Grown T k before out count start top step true e) where
-    pub grown_walked : (q : stride-code.Stride) → Walks T rows k.count step q → Grown T k before out count start top q.step true e
+    pub grown_walked : (q : stride_code.Stride) → Walks T rows k.count step q → Grown T k before out count start top q.step true e
     grown_walked q W = record {
       listed = G.listed;
       ascends = G.ascends;

@@ -18,14 +18,14 @@ use Rattle.table_files.specs.Admission.{table_of}
 use Rattle.tables.specs.Bounds.{edge_start}
 use Rattle.listed_rows.specs.Listed.{listed_row, listed_rows}
 use Rattle.kept_rows.specs.Births.{birth}
-use Rattle.next_steps.specs.declared.stride.Stride as stride-code
-use Rattle.making_turns.specs.declared.work.Work as work-code
+use Rattle.next_steps.specs.declared.stride.Stride as stride_code
+use Rattle.making_turns.specs.declared.work.Work as work_code
 use Rattle.next_steps.specs.Steps.{due, plain, Follows, Walks}
 use Rattle.making_turns.specs.Work.{blank, Grown, stored, Standing, Working, Loops, went, next_row, to_walks, to_rows, Comes}
 use Rattle.next_steps.proofs.Laws.Steps.{settled_walked}
 use Rattle.making_turns.proofs.Laws.Growing.{top_listed, grown_followed, grown_next, grown_walks, grown_walked, grown_on}
 
-module _ (table before : List ℕ) (records : ℕ) (out : List ℕ) (ws : List Region) (s : work-code.Work) (S : Standing table before records out ws s) where
+module _ (table before : List ℕ) (records : ℕ) (out : List ℕ) (ws : List Region) (s : work_code.Work) (S : Standing table before records out ws s) where
   abbrev n : ℕ
   n = s.head.clocks.count
 
@@ -71,7 +71,7 @@ module _ (table before : List ℕ) (records : ℕ) (out : List ℕ) (ws : List R
 
   -- plain steps -------------------------------------------------------------------------------------------------------------------------------
 
-  module _ (w : s.walking ≡ false) (r : Region) (e : r ≡ get_or ws s.take blank) (q : stride-code.Stride)
+  module _ (w : s.walking ≡ false) (r : Region) (e : r ≡ get_or ws s.take blank) (q : stride_code.Stride)
       (F : Follows (table_of table) rows n s.step (row_of n r) s.entered q) where
     pub taken_listed : Mem (row_of n r) rows
     taken_listed = top_listed (table_of table) s.head.clocks before out s.count s.start s.top s.step s.entered (grown_as w) (row_of n r) (taken_tied w r e) q F
@@ -114,7 +114,7 @@ module _ (table before : List ℕ) (records : ℕ) (out : List ℕ) (ws : List R
       → every (has rows) (due (table_of table) m (listed_row n out i)) ≡ true
   old_rows m i h p l b = settled_walked (table_of table) rows s.entered m (listed_row n out i) p (S.grown.walked m i (omega (arith, edges_are)) p l (inl b))
 
-  module _ (w : s.walking ≡ true) (q : stride-code.Stride) (W : Walks (table_of table) rows n s.step q) (u : q.entered ≡ s.entered) where
+  module _ (w : s.walking ≡ true) (q : stride_code.Stride) (W : Walks (table_of table) rows n s.step q) (u : q.entered ≡ s.entered) where
     walk_in : q.step ≤ suc s.head.edges
     walk_in = go q.next.found refl
       where

@@ -20,12 +20,12 @@ use Rattle.calls.specs.RegionFile.{row_width}
 use Rattle.listed_rows.specs.Listed.{listed_row, listed_rows, Splits}
 use Rattle.kept_rows.specs.Inserted.{Inserted}
 use Rattle.kept_rows.proofs.Laws.Inserted.{inserted_mem}
-use Rattle.next_steps.specs.declared.stride.Stride as stride-code
-use Rattle.making_turns.specs.declared.work.Work as work-code
+use Rattle.next_steps.specs.declared.stride.Stride as stride_code
+use Rattle.making_turns.specs.declared.work.Work as work_code
 use Rattle.making_turns.specs.Work.{blank, Grown, Tied, left, Standing, Loops, went, next_row, to_walks, to_rows, adding, refusing, ending, Comes}
 use Rattle.making_turns.proofs.Laws.Adding.{comes_row, grown_added, tied_added}
 
-module _ (table before : List ℕ) (records : ℕ) (out : List ℕ) (ws : List Region) (s : work-code.Work) (S : Standing table before records out ws s) where
+module _ (table before : List ℕ) (records : ℕ) (out : List ℕ) (ws : List Region) (s : work_code.Work) (S : Standing table before records out ws s) where
   abbrev n : ℕ
   n = s.head.clocks.count
 
@@ -93,8 +93,8 @@ module _ (table before : List ℕ) (records : ℕ) (out : List ℕ) (ws : List R
 
 -- each turn leaves less to do -----------------------------------------------------------------------------------------------------------------
 
-module _ (s : work-code.Work) where
-  pub went_left : (q : stride-code.Stride) → left (went s q) ≡ left s
+module _ (s : work_code.Work) where
+  pub went_left : (q : stride_code.Stride) → left (went s q) ≡ left s
   unfolding left
   went_left q = refl
 

@@ -19,7 +19,7 @@ use Rattle.regions.specs.Values.{Few, bounds_of, row_of, edge_of, sought, found_
 use Rattle.regions.specs.declared.region.Clocks.{Clocks}
 use Rattle.regions.specs.declared.region.Region.{Region}
 use Rattle.regions.specs.declared.region.Sought.{Sought}
-use Rattle.regions.specs.declared.edge.Edge as edge-code
+use Rattle.regions.specs.declared.edge.Edge as edge_code
 use Rattle.edge_walk.specs.Walk.{first_above}
 use Rattle.edge_walk.specs.Way.{way_rows}
 use Rattle.edge_walk.specs.declared.way.Way.{Way}
@@ -72,7 +72,7 @@ enabled a b g t e h = (and_law (eqb a b) g (eqb_law a b) (λ (h : g ≡ true). h
 
 -- one that cannot leads nowhere
 pub none_led : (k : Clocks) → Few k → length k.bounds ≡ 4 → (v : Region) → IsRow (bounds_of k) (row_of k.count v)
-    → (e : edge-code.Edge) → Bounded (bounds_of k) (edge_of k.count e)
+    → (e : edge_code.Edge) → Bounded (bounds_of k) (edge_of k.count e)
     → (t : Bool) → t ≡ (eqb v.location e.source && guardsb (row_of k.count v) (edge_of k.count e).guards) → t ≡ false
     → edge_rows (bounds_of k) (edge_of k.count e) (row_of k.count v) ≡ []
 unfolding way_rows

@@ -18,7 +18,7 @@ use Rattle.automata.proofs.Laws.Next.{time_successors_are, edge_successors_are}
 use Rattle.regions.specs.Image.{deterministic}
 use Rattle.regions.specs.Values.{bounds_of, edge_of, sought}
 use Rattle.regions.specs.declared.region.Sought.{Sought}
-use Rattle.regions.specs.declared.edge.Edge as edge-code
+use Rattle.regions.specs.declared.edge.Edge as edge_code
 use Rattle.skylines.proofs.Laws.NoNext.{edge_elsewhere}
 use Rattle.table_files.specs.Admission.{table_of}
 use Rattle.table_files.proofs.Laws.Admission.{admission_admitted}
@@ -38,7 +38,7 @@ module _ (table : List ℕ) (head : Head) (D : Describes table head) where
   pub waits_are : (r : Row) → due T 0 r ≡ wait_rows (bounds_of head.clocks) r
   waits_are r = time_successors_are T r ∙ ap (λ (c : List ℕ). wait_rows c r) (sym D.bounds)
 
-  module _ (j : ℕ) (l : j < head.edges) (e : edge-code.Edge) (means : edge_of n e ≡ edge T j) where
+  module _ (j : ℕ) (l : j < head.edges) (e : edge_code.Edge) (means : edge_of n e ≡ edge T j) where
     edge_there : j < length T.edges
     edge_there = omega (arith, D.edges)
 

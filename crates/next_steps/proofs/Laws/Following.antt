@@ -22,7 +22,7 @@ use Rattle.table_records.proofs.Laws.Skips.{skip_one}
 use Rattle.tables.specs.Values.{Describes}
 use Rattle.tables.specs.Bounds.{edge_start}
 use Rattle.new_rows.specs.New.{NewOf}
-use Rattle.next_steps.specs.declared.stride.Stride as stride-code
+use Rattle.next_steps.specs.declared.stride.Stride as stride_code
 use Rattle.next_steps.specs.Steps.{due, into_final, plain, Settled, Asks, Follows}
 use Rattle.next_steps.proofs.Laws.Steps.{settled_more}
 use Rattle.next_steps.proofs.Laws.Asking.{waits_are}
@@ -101,8 +101,8 @@ module _ (T : Table) (rows : List Row) (n : ℕ) (r : Row) (step : ℕ) (entered
           go m a b p (yes e) = subst (λ (t : ℕ). Settled T rows seen' t r) (sym e) (Q.settled f (subst (λ (t : ℕ). plain T t ≡ true) e p))
           go m a b p (no e) = still m a (omega arith) p
 
-      pub along_new : (f : next.found ≡ true) (here : ℕ) (None-found : Sought) → None-found ≡ sought none
-          → Follows T rows n step r entered (record { next = next; step = k; here = here; entered = seen'; «from» = None-found })
+      pub along_new : (f : next.found ≡ true) (here : ℕ) (none_found : Sought) → none_found ≡ sought none
+          → Follows T rows n step r entered (record { next = next; step = k; here = here; entered = seen'; «from» = none_found })
       along_new f here z e = record {
         on = A.on;
         settled = still;
@@ -113,8 +113,8 @@ module _ (T : Table) (rows : List Row) (n : ℕ) (r : Row) (step : ℕ) (entered
         enters = enters_on;
       }
 
-    pub along_all : length T.edges < k → (none-next : Sought) → none-next ≡ sought none → (here : ℕ) (None-found : Sought) → None-found ≡ sought none
-        → Follows T rows n step r entered (record { next = none-next; step = k; here = here; entered = seen; «from» = None-found })
+    pub along_all : length T.edges < k → (none_next : Sought) → none_next ≡ sought none → (here : ℕ) (none_found : Sought) → none_found ≡ sought none
+        → Follows T rows n step r entered (record { next = none_next; step = k; here = here; entered = seen; «from» = none_found })
     along_all h x q here z e = record {
       on = A.on;
       settled = A.settled;
@@ -135,8 +135,8 @@ module _ (table : List ℕ) (head : Head) (D : Describes table head) (rows : Lis
   n₁ = head.clocks.count
 
   module _ (next : Sought) (N : NewOf n₁ (wait_rows (bounds_of head.clocks) r) rows next) where
-    pub waits_new : (f : next.found ≡ true) (here : ℕ) (None-found : Sought) → None-found ≡ sought none
-        → Follows T₁ rows n₁ 0 r entered (record { next = next; step = 0; here = here; entered = entered; «from» = None-found })
+    pub waits_new : (f : next.found ≡ true) (here : ℕ) (none_found : Sought) → none_found ≡ sought none
+        → Follows T₁ rows n₁ 0 r entered (record { next = next; step = 0; here = here; entered = entered; «from» = none_found })
     waits_new f here z e = record {
       on = omega arith;
       settled = λ m a b p. absurd (omega arith);
@@ -147,7 +147,7 @@ module _ (table : List ℕ) (head : Head) (D : Describes table head) (rows : Lis
       enters = λ y. inl y;
     }
 
-    pub waits_on : next.found ≡ false → (q : stride-code.Stride) → Follows T₁ rows n₁ 1 r entered q → Follows T₁ rows n₁ 0 r entered q
+    pub waits_on : next.found ≡ false → (q : stride_code.Stride) → Follows T₁ rows n₁ 1 r entered q → Follows T₁ rows n₁ 0 r entered q
     waits_on f q F = record {
       on = omega arith;
       settled = λ m a b p. go m b p;

@@ -20,7 +20,7 @@ use Rattle.regions.specs.Values.{bounds_of, row_of, region_of, edge_of, sought}
 use Rattle.regions.specs.declared.region.Clocks.{Clocks}
 use Rattle.regions.specs.declared.region.Region.{Region}
 use Rattle.regions.specs.declared.region.Sought.{Sought}
-use Rattle.regions.specs.declared.edge.Edge as edge-code
+use Rattle.regions.specs.declared.edge.Edge as edge_code
 use Rattle.skylines.proofs.Laws.NoNext.{edge_elsewhere}
 use Rattle.table_files.specs.Admission.{table_of}
 use Rattle.table_records.specs.declared.head.Head.{Head}
@@ -51,7 +51,7 @@ marks_on marks start i f long before b e j s l = go (ℕ_discrete j i)
 
 -- one edge -----------------------------------------------------------------------------------------------------------------------------------------
 
-module _ (k : Clocks) (list : List ℕ) (count : ℕ) (e : edge-code.Edge) where
+module _ (k : Clocks) (list : List ℕ) (count : ℕ) (e : edge_code.Edge) where
   abbrev n : ℕ
   n = k.count
 
@@ -97,21 +97,21 @@ module _ (k : Clocks) (list : List ℕ) (count : ℕ) (e : edge-code.Edge) where
   near_listed i l x m = rw (listed_again n list i x m) (listed_in n list count i l)
 
   -- from a row that was walked from
-  module _ (from next : Sought) (in_List : Mem (row_of n from.region) rows) (N : NewOf n (edge_rows (bounds_of k) (edge_of n e) (row_of n from.region)) rows next) where
+  module _ (from next : Sought) (in_list : Mem (row_of n from.region) rows) (N : NewOf n (edge_rows (bounds_of k) (edge_of n e) (row_of n from.region)) rows next) where
     pub walked_further : next.found ≡ true → WalkedBy k list count e next from
     walked_further f = record {
       none = λ g. never (sym g ∙ f);
-      one = λ _. (row_of n from.region, in_List, N.next_row f);
+      one = λ _. (row_of n from.region, in_list, N.next_row f);
       new = N.new;
-      from_row = λ _. in_List;
+      from_row = λ _. in_list;
     }
 
     pub walked_open : OpenBy k list count e from → from.found ≡ true → WalkedBy k list count e next from
     walked_open O t = record {
       none = λ g x i. absurd (O.here t (N.none g));
-      one = λ f. (row_of n from.region, in_List, N.next_row f);
+      one = λ f. (row_of n from.region, in_list, N.next_row f);
       new = N.new;
-      from_row = λ _. in_List;
+      from_row = λ _. in_list;
     }
 
   pub walked_none : (opened : Sought) → OpenBy k list count e opened → opened.found ≡ false → (q : Sought) → q ≡ sought none → (z : Sought) → z ≡ sought none
@@ -160,7 +160,7 @@ module _ (T : Table) (rows : List Row) (n step : ℕ) where
 
 -- an edge that is the table's -------------------------------------------------------------------------------------------------------------------------
 
-module _ (table : List ℕ) (head : Head) (D : Describes table head) (j : ℕ) (l : j < head.edges) (e : edge-code.Edge)
+module _ (table : List ℕ) (head : Head) (D : Describes table head) (j : ℕ) (l : j < head.edges) (e : edge_code.Edge)
     (means : edge_of head.clocks.count e ≡ edge (table_of table) j) (list : List ℕ) (count : ℕ) where
   abbrev T₁ : Table
   T₁ = table_of table

@@ -17,7 +17,7 @@ use Rattle.automata.specs.Checks.{every, has}
 use Rattle.automata.proofs.Laws.Next.{time_successors_are, edge_successors_are, by_edges_law, next_rows_parts}
 use Rattle.automata.proofs.Laws.Checks.{has_law, every_law}
 use Rattle.regions.specs.Values.{bounds_of, edge_of}
-use Rattle.regions.specs.declared.edge.Edge as edge-code
+use Rattle.regions.specs.declared.edge.Edge as edge_code
 use Rattle.skylines.proofs.Laws.NoNext.{edge_elsewhere}
 use Rattle.table_files.specs.Admission.{table_of}
 use Rattle.table_files.proofs.Laws.Admission.{admission_admitted}
@@ -142,7 +142,7 @@ module _ (T : Table) (n : ℕ) (list : List ℕ) (count : ℕ) where
       first_then (Inside (wait_rows T.bounds) n list count) (Inside (by_edges T) n list count) 0 count (Inside (next_rows T) n list count) (λ i a b. next_inside i) m F r G
 
 -- the edge that the code reads is the table's
-module _ (table : List ℕ) (head : Head) (D : Describes table head) (k : ℕ) (l : k < head.edges) (e : edge-code.Edge)
+module _ (table : List ℕ) (head : Head) (D : Describes table head) (k : ℕ) (l : k < head.edges) (e : edge_code.Edge)
     (means : edge_of head.clocks.count e ≡ edge (table_of table) k) where
   edge_there : k < length (table_of table).edges
   edge_there = omega (arith, D.edges)

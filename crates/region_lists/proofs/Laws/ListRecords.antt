@@ -239,12 +239,12 @@ module _ (T : Table) (list header : List ℕ) (e : header ≡ record_at list 0 4
             list_told_bad T list number place m z
             (list_refused T list some_head few_rows number place (rw count_is at (was_bad (records (row_record T) 1 count (drop 4 list)) number place t z)))
 
-        module _ (z : number ≡ 0) (n : ℕ) (clocks-are : n ≡ clocks T) where
+        module _ (z : number ≡ 0) (n : ℕ) (clocks_are : n ≡ clocks T) where
           rows_good : (rows : List Row) × (rest : List ℕ) × (records (row_record T) 1 (two (list_head T list) 2) (drop 4 list) ≡ good rows rest)
           rows_good = rw count_is at (was_good (records (row_record T) 1 count (drop 4 list)) number place t z)
 
           end_is : 4 + count * row_width n ≡ 4 + two (list_head T list) 2 * row_width (clocks T)
-          end_is = λ i. 4 + count_is i * row_width (clocks-are i)
+          end_is = λ i. 4 + count_is i * row_width (clocks_are i)
 
           pub bytes_follow : 4 + count * row_width n < length list → ListTold T list 9 (1 + count) 0
           bytes_follow l =

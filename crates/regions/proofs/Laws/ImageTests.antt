@@ -16,9 +16,9 @@ use Rattle.automata.specs.Edge.{idle}
 use Rattle.automata.specs.Rankings.{usedb}
 use Rattle.regions.specs.Values.{padded, update_of, edge_of}
 use Rattle.regions.specs.Image.{settledb, settled_at, moved_interval, moved_rank, marked, dense_rank, dense_at, dense}
-use Rattle.regions.specs.declared.edge.Action as action-code
-use Rattle.regions.specs.declared.edge.Update as update-code
-use Rattle.regions.specs.declared.edge.Edge as edge-code
+use Rattle.regions.specs.declared.edge.Action as action_code
+use Rattle.regions.specs.declared.edge.Update as update_code
+use Rattle.regions.specs.declared.edge.Edge as edge_code
 use Rattle.regions.specs.declared.clock_move.Move.{Move}
 use Rattle.automata.proofs.Laws.Comparison.{equal_alone}
 use Rattle.automata.proofs.Laws.Count.{count_same}
@@ -27,21 +27,21 @@ use Rattle.regions.proofs.Laws.Moves.{no_update}
 
 -- updates -----------------------------------------------------------------------------------------------------------------------------
 
-module _ (u : update-code.Update) where
-  pub settled_keep : u.action ≡ action-code.TheVariants.Keep → true ≡ settledb (update_of u)
+module _ (u : update_code.Update) where
+  pub settled_keep : u.action ≡ action_code.TheVariants.Keep → true ≡ settledb (update_of u)
   unfolding settledb
   settled_keep e = rw (e, equal_alone)
 
-  pub settled_constant : (k : ℕ) → u.action ≡ action-code.TheVariants.Constant k → at_alone u.comparison ≡ settledb (update_of u)
+  pub settled_constant : (k : ℕ) → u.action ≡ action_code.TheVariants.Constant k → at_alone u.comparison ≡ settledb (update_of u)
   unfolding settledb
   settled_constant k e = rw e
 
-  pub settled_clock : (y up down : ℕ) → u.action ≡ action-code.TheVariants.Clock y up down → at_alone u.comparison ≡ settledb (update_of u)
+  pub settled_clock : (y up down : ℕ) → u.action ≡ action_code.TheVariants.Clock y up down → at_alone u.comparison ≡ settledb (update_of u)
   unfolding settledb
   settled_clock y up down e = rw e
 
 -- the code's update of clock z
-module _ (n : ℕ) (e : edge-code.Edge) (few : n ≤ 4) (four : length e.updates ≡ 4) (z : ℕ) (l : z < n) (b : Bool) (q : b ≡ settledb (update_of (get_or e.updates z no_update))) where
+module _ (n : ℕ) (e : edge_code.Edge) (few : n ≤ 4) (four : length e.updates ≡ 4) (z : ℕ) (l : z < n) (b : Bool) (q : b ≡ settledb (update_of (get_or e.updates z no_update))) where
   pub settled_here : settled_at (edge_of n e) z ≡ b
   settled_here = ap settledb (get_or_mapped update_of n e.updates z no_update idle (omega arith) l) ∙ sym q
 

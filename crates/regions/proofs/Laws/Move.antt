@@ -21,8 +21,8 @@ use Rattle.regions.specs.Values.{bounds_of, row_of, update_of}
 use Rattle.regions.specs.declared.clock_move.Move.{Move}
 use Rattle.regions.specs.declared.region.Clocks.{Clocks}
 use Rattle.regions.specs.declared.region.Region.{Region}
-use Rattle.regions.specs.declared.edge.Action as action-code
-use Rattle.regions.specs.declared.edge.Update as update-code
+use Rattle.regions.specs.declared.edge.Action as action_code
+use Rattle.regions.specs.declared.edge.Update as update_code
 use Rattle.automata.proofs.Laws.Order.{compare_lt, compare_gt}
 use Rattle.automata.proofs.Laws.Comparison.{some_order}
 use Rattle.automata.proofs.Laws.Tests.{fails, and_law, eqb_law, leb_law}
@@ -115,27 +115,27 @@ move_fits c r z j p u b = go u.action b
     go (clock y up down) b = refl
 
 -- the code's move, for n clocks
-module _ (k : Clocks) (v : Region) (z : ℕ) (l : z < k.count) (u : update-code.Update) where
+module _ (k : Clocks) (v : Region) (z : ℕ) (l : z < k.count) (u : update_code.Update) where
   abbrev told : ℕ → ℕ → ℕ → ℕ → Move
   told cmp s i q = record { comparison = cmp; shift = s; reference = i; rank = q; top = 2 * at k.bounds z + 1 }
 
   abbrev asked : Move
   asked = move_of (bounds_of k) (row_of k.count v) z (update_of u)
 
-  pub move_keep : u.action ≡ action-code.TheVariants.Keep → told 2 0 (at v.intervals z) (at v.ranks z) ≡ asked
+  pub move_keep : u.action ≡ action_code.TheVariants.Keep → told 2 0 (at v.intervals z) (at v.ranks z) ≡ asked
   move_keep e =
       rw (e, get_or-take k.count k.bounds z 0 l, get_or-take k.count v.intervals z 0 l, get_or-take k.count v.ranks z 0 l, add-zero (at v.intervals z))
 
-  pub move_constant : (a i : ℕ) → u.action ≡ action-code.TheVariants.Constant a → i ≡ 2 * a → told u.comparison 0 i 0 ≡ asked
+  pub move_constant : (a i : ℕ) → u.action ≡ action_code.TheVariants.Constant a → i ≡ 2 * a → told u.comparison 0 i 0 ≡ asked
   move_constant a i e f = rw (e, f, get_or-take k.count k.bounds z 0 l)
 
-  pub move_clock : (y up down s i : ℕ) → u.action ≡ action-code.TheVariants.Clock y up down → y < k.count → s ≡ 2 * down → i ≡ at v.intervals y + 2 * up
+  pub move_clock : (y up down s i : ℕ) → u.action ≡ action_code.TheVariants.Clock y up down → y < k.count → s ≡ 2 * down → i ≡ at v.intervals y + 2 * up
       → told u.comparison s i (at v.ranks y) ≡ asked
   move_clock y up down s i e h f g =
       rw (e, f, g, get_or-take k.count k.bounds z 0 l, get_or-take k.count v.intervals y 0 h, get_or-take k.count v.ranks y 0 h)
 
 -- the clock that an update names is one of them
-pub clock_in : (k : Clocks) (z : ℕ) (u : update-code.Update) (y up down : ℕ) → u.action ≡ action-code.TheVariants.Clock y up down
+pub clock_in : (k : Clocks) (z : ℕ) (u : update_code.Update) (y up down : ℕ) → u.action ≡ action_code.TheVariants.Clock y up down
     → BoundedBy (bounds_of k) z (update_of u).action → y < k.count
 clock_in k z u y up down e b =
     let named : BoundedBy (bounds_of k) z (clock y up down) = rw e at b in

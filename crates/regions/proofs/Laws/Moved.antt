@@ -18,7 +18,7 @@ use Rattle.regions.specs.Image.{deterministic, reachesb, moved_interval, moved_r
 use Rattle.regions.specs.declared.region.Clocks.{Clocks}
 use Rattle.regions.specs.declared.region.Region.{Region}
 use Rattle.regions.specs.declared.region.Sought.{Sought}
-use Rattle.regions.specs.declared.edge.Edge as edge-code
+use Rattle.regions.specs.declared.edge.Edge as edge_code
 use Rattle.regions.specs.declared.clock_move.Move.{Move}
 use Rattle.automata.proofs.Laws.Tests.{never}
 use Rattle.automata.proofs.Laws.Lists.{length_each, at_each}
@@ -74,7 +74,7 @@ ranked_row n s ks a b q =
 
 -- the code's values -------------------------------------------------------------------------------------------------------------------
 
-module _ (k : Clocks) (v : Region) (e : edge-code.Edge) (few : k.count ≤ 4) (long : length k.bounds ≡ 4) (four : length e.updates ≡ 4) where
+module _ (k : Clocks) (v : Region) (e : edge_code.Edge) (few : k.count ≤ 4) (long : length k.bounds ≡ 4) (four : length e.updates ≡ 4) where
   abbrev C : List ℕ
   C = bounds_of k
 

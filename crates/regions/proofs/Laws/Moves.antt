@@ -15,17 +15,17 @@ use Rattle.regions.specs.Move.{move_of, permitsb}
 use Rattle.regions.specs.Placing.{still, some_permitted}
 use Rattle.regions.specs.declared.region.Clocks.{Clocks}
 use Rattle.regions.specs.declared.region.Region.{Region}
-use Rattle.regions.specs.declared.edge.Action as action-code
-use Rattle.regions.specs.declared.edge.Update as update-code
-use Rattle.regions.specs.declared.edge.Edge as edge-code
+use Rattle.regions.specs.declared.edge.Action as action_code
+use Rattle.regions.specs.declared.edge.Update as update_code
+use Rattle.regions.specs.declared.edge.Edge as edge_code
 use Rattle.regions.specs.declared.clock_move.Move.{Move}
 use Rattle.regions.proofs.Laws.Values.{length_first, get_or_mapped}
 
 -- what stands past the code's updates
-abbrev pub no_update : update-code.Update
-no_update = record { action = action-code.TheVariants.Keep; comparison = 0 }
+abbrev pub no_update : update_code.Update
+no_update = record { action = action_code.TheVariants.Keep; comparison = 0 }
 
-module _ (k : Clocks) (v : Region) (e : edge-code.Edge) (few : k.count ≤ 4) (four : length e.updates ≡ 4) (z : ℕ) (l : z < k.count) where
+module _ (k : Clocks) (v : Region) (e : edge_code.Edge) (few : k.count ≤ 4) (four : length e.updates ≡ 4) (z : ℕ) (l : z < k.count) where
   pub its_update : get_or (edge_of k.count e).updates z idle ≡ update_of (get_or e.updates z no_update)
   its_update = get_or_mapped update_of k.count e.updates z no_update idle (omega arith) l
 

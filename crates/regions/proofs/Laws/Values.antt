@@ -45,10 +45,10 @@ drop_out zero (x ∷ xs) h = absurd (omega arith)
 drop_out (suc i) (x ∷ xs) h = drop_out i xs (omega arith)
 
 -- an element of a list of values, each as what it stands for
-get_d_map : {A B : Type 0} (f : A → B) (xs : List A) (i : ℕ) (d : A) (e : B) → i < length xs → get_or (map f xs) i e ≡ f (get_or xs i d)
-get_d_map f [] i d e h = absurd (omega arith)
-get_d_map f (x ∷ xs) zero d e h = refl
-get_d_map f (x ∷ xs) (suc i) d e h = get_d_map f xs i d e (le_of_suc-le-suc h)
+get_or_map : {A B : Type 0} (f : A → B) (xs : List A) (i : ℕ) (d : A) (e : B) → i < length xs → get_or (map f xs) i e ≡ f (get_or xs i d)
+get_or_map f [] i d e h = absurd (omega arith)
+get_or_map f (x ∷ xs) zero d e h = refl
+get_or_map f (x ∷ xs) (suc i) d e h = get_or_map f xs i d e (le_of_suc-le-suc h)
 
 -- an array of structs is known to be as long as that of what they are in memory
 pub length_under : (A B : Type 0) (f : A → B) (xs : List A) (n : ℕ) → length (map f xs) ≡ n → length xs ≡ n
@@ -62,7 +62,7 @@ module _ {A B : Type 0} (f : A → B) (m : ℕ) (xs : List A) where
 
   -- each is that of the array
   pub get_or_mapped : (i : ℕ) (d : A) (e : B) → m ≤ length xs → i < m → get_or (map f (take m xs)) i e ≡ f (get_or xs i d)
-  get_or_mapped i d e h l = get_d_map f (take m xs) i d e (rw (length-take-le m xs h) l) ∙ ap f (get_or-take m xs i d l)
+  get_or_mapped i d e h l = get_or_map f (take m xs) i d e (rw (length-take-le m xs h) l) ∙ ap f (get_or-take m xs i d l)
 
 -- a clock's number is k
 abbrev pub at_is : List ℕ → ℕ → ℕ → Bool

@@ -20,10 +20,10 @@ use Rattle.automata.specs.Edge.{Edge, Bounded, BoundedBy, Action, keep, constant
 use Rattle.automata.specs.Point.{later}
 use Rattle.automata.specs.Run.{State, Move}
 use Rattle.regions.specs.Values.{guard_of, action_of, update_of, edge_of}
-use Rattle.regions.specs.declared.edge.Action as action-code
-use Rattle.regions.specs.declared.edge.Edge as edge-code
-use Rattle.regions.specs.declared.edge.Guard as guard-code
-use Rattle.regions.specs.declared.edge.Update as update-code
+use Rattle.regions.specs.declared.edge.Action as action_code
+use Rattle.regions.specs.declared.edge.Edge as edge_code
+use Rattle.regions.specs.declared.edge.Guard as guard_code
+use Rattle.regions.specs.declared.edge.Update as update_code
 use Rattle.table_files.proofs.Laws.Admission.{admission_admitted}
 use Rattle.table_files.proofs.Laws.Reading.{itself}
 use Rattle.table_files.specs.Admission.{table_of}
@@ -32,7 +32,7 @@ use Rattle.tables.specs.Values.{Describes}
 use Rattle.table_records.specs.declared.head.Head.{Head}
 use Rattle.calls.specs.RunFile.{guardedb, allowed_byb, allowedb}
 use Rattle.run_lists.specs.Step.{Names, guard_passes, refusal, step_by, one_more, state_of, point_of}
-use Rattle.run_lists.specs.declared.step.State as state-code
+use Rattle.run_lists.specs.declared.step.State as state_code
 
 -- two numbers of two bytes have a product of four
 pub product_small : (a b : ℕ) → a < 65536 → b < 65536 → a * b < 4294967296
@@ -54,14 +54,14 @@ same_at (x ∷ xs) zero d d' h = refl
 same_at (x ∷ xs) (suc z) d d' h = same_at xs z d d' (omega arith)
 
 -- the guards and updates of an edge of the code
-module _ (n : ℕ) (e : edge-code.Edge) where
-  guard_read : (i : ℕ) (d : guard-code.Guard) → i < e.guard_count → get_or (edge_of n e).guards i (guard_of d) ≡ guard_of (get_or e.guards i d)
+module _ (n : ℕ) (e : edge_code.Edge) where
+  guard_read : (i : ℕ) (d : guard_code.Guard) → i < e.guard_count → get_or (edge_of n e).guards i (guard_of d) ≡ guard_of (get_or e.guards i d)
   guard_read i d h =
       get_or-map guard_of (take e.guard_count e.guards) i d ∙ ap guard_of (get_or-take e.guard_count e.guards i d h)
 
-  update_read : (z : ℕ) (d : update-code.Update) → z < n → z < length e.updates → get_or (edge_of n e).updates z idle ≡ update_of (get_or e.updates z d)
+  update_read : (z : ℕ) (d : update_code.Update) → z < n → z < length e.updates → get_or (edge_of n e).updates z idle ≡ update_of (get_or e.updates z d)
   update_read z d h l =
-      let k : update-code.Update = record { action = action-code.TheVariants.Keep; comparison = 0 } in
+      let k : update_code.Update = record { action = action_code.TheVariants.Keep; comparison = 0 } in
       get_or-map update_of (take n e.updates) z k ∙ ap update_of (get_or-take n e.updates z k h ∙ same_at e.updates z k d l)
 
   guards_many : e.guard_count ≤ length e.guards → length (edge_of n e).guards ≡ e.guard_count
@@ -77,11 +77,11 @@ module _ {A : Type 0} (p : A → Bool) (xs : List A) (i : ℕ) where
   every_end h = rw (drop_of_length-le xs h)
 
 -- what is left to test from guard i on
-abbrev pub guards_from : ℕ → ℕ → ℕ → List ℕ → edge-code.Edge → ℕ → Bool
+abbrev pub guards_from : ℕ → ℕ → ℕ → List ℕ → edge_code.Edge → ℕ → Bool
 guards_from D n delay values e i = every (guard_passes D (later delay (take n values))) (drop i (edge_of n e).guards)
 
-module _ (D n delay : ℕ) (values : List ℕ) (e : edge-code.Edge) (few : n ≤ length values) (N : Names n e) where
-  guard_answer : (i : ℕ) (d : guard-code.Guard) → i < e.guard_count
+module _ (D n delay : ℕ) (values : List ℕ) (e : edge_code.Edge) (few : n ≤ length values) (N : Names n e) where
+  guard_answer : (i : ℕ) (d : guard_code.Guard) → i < e.guard_count
       → guard_passes D (later delay (take n values)) (get_or (edge_of n e).guards i (guard_of d))
       ≡ holds (get_or e.guards i d).comparison (at values (get_or e.guards i d).clock + delay) ((get_or e.guards i d).constant * D)
   guard_answer i d h =
@@ -91,7 +91,7 @@ module _ (D n delay : ℕ) (values : List ℕ) (e : edge-code.Edge) (few : n ≤
   many : length (edge_of n e).guards ≡ e.guard_count
   many = guards_many n e (omega (arith, N.few, N.guards_length))
 
-  guards_next : (i : ℕ) (d : guard-code.Guard) (b : Bool) → i < e.guard_count
+  guards_next : (i : ℕ) (d : guard_code.Guard) (b : Bool) → i < e.guard_count
       → b ≡ holds (get_or e.guards i d).comparison (at values (get_or e.guards i d).clock + delay) ((get_or e.guards i d).constant * D)
       → guards_from D n delay values e i ≡ (b && guards_from D n delay values e (i + 1))
   guards_next i d b h g =
@@ -99,12 +99,12 @@ module _ (D n delay : ℕ) (values : List ℕ) (e : edge-code.Edge) (few : n ≤
       ∙ ap (λ (x : Bool). x && guards_from D n delay values e (i + 1)) (guard_answer i d h ∙ sym g)
 
   -- a guard that holds leaves those after it; one that fails decides
-  pub guards_on : (i : ℕ) (d : guard-code.Guard) {b : Bool} → i < e.guard_count
+  pub guards_on : (i : ℕ) (d : guard_code.Guard) {b : Bool} → i < e.guard_count
       → b ≡ holds (get_or e.guards i d).comparison (at values (get_or e.guards i d).clock + delay) ((get_or e.guards i d).constant * D)
       → b ≡ true → guards_from D n delay values e i ≡ guards_from D n delay values e (i + 1)
   guards_on i d h g k = guards_next i d true h (sym k ∙ g)
 
-  pub guards_stop : (i : ℕ) (d : guard-code.Guard) {b : Bool} → i < e.guard_count
+  pub guards_stop : (i : ℕ) (d : guard_code.Guard) {b : Bool} → i < e.guard_count
       → b ≡ holds (get_or e.guards i d).comparison (at values (get_or e.guards i d).clock + delay) ((get_or e.guards i d).constant * D)
       → b ≡ false → guards_from D n delay values e i ≡ false
   guards_stop i d h g k = guards_next i d false h (sym k ∙ g)
@@ -143,18 +143,18 @@ action_in m n h (constant k) i = tt
 action_in m n h (clock y up down) i = omega arith
 
 -- whether the update of clock z allows its new value
-abbrev pub allowed_at : ℕ → ℕ → ℕ → List ℕ → List ℕ → edge-code.Edge → ℕ → Bool
+abbrev pub allowed_at : ℕ → ℕ → ℕ → List ℕ → List ℕ → edge_code.Edge → ℕ → Bool
 allowed_at D n delay values news e z =
     allowed_byb D (later delay (take n values)) z (at (take n news) z) (get_or (edge_of n e).updates z idle).comparison
     (get_or (edge_of n e).updates z idle).action
 
-module _ (D n delay : ℕ) (values news : List ℕ) (e : edge-code.Edge) (four : n ≤ 4) (few : n ≤ length values) (N : Names n e) where
+module _ (D n delay : ℕ) (values news : List ℕ) (e : edge_code.Edge) (four : n ≤ 4) (few : n ≤ length values) (N : Names n e) where
   -- the answer of the code to clock z
-  abbrev pub answer_at : ℕ → update-code.Update → Bool
+  abbrev pub answer_at : ℕ → update_code.Update → Bool
   answer_at z d =
       allowed_byb D (later delay values) z (at news z) (get_or e.updates z d).comparison (action_of (get_or e.updates z d).action)
 
-  allowed_of : (z : ℕ) (d : update-code.Update) → z < n → answer_at z d ≡ allowed_at D n delay values news e z
+  allowed_of : (z : ℕ) (d : update_code.Update) → z < n → answer_at z d ≡ allowed_at D n delay values news e z
   allowed_of z d h =
       rw (update_read n e z d h (omega (arith, N.updates_length)), get_or-take n news z 0 h)
       (narrowed D delay values z (at news z) (get_or e.updates z d).comparison n h few (action_of (get_or e.updates z d).action) (N.updates z h d))
@@ -162,11 +162,11 @@ module _ (D n delay : ℕ) (values news : List ℕ) (e : edge-code.Edge) (four :
   whole : allowedb D (later delay (take n values)) (take n news) (edge_of n e).updates ≡ allb n (allowed_at D n delay values news e)
   whole = ap (λ (k : ℕ). allb k (allowed_at D n delay values news e)) (length_later delay (take n values) ∙ length-take-le n values few)
 
-  pub updates_on : (z : ℕ) (d : update-code.Update) {b : Bool} → z < n → b ≡ answer_at z d → b ≡ true
+  pub updates_on : (z : ℕ) (d : update_code.Update) {b : Bool} → z < n → b ≡ answer_at z d → b ≡ true
       → allb z (allowed_at D n delay values news e) ≡ true → allb (z + 1) (allowed_at D n delay values news e) ≡ true
   updates_on z d h g k all = all_more (allowed_at D n delay values news e) z all (sym (allowed_of z d h) ∙ sym g ∙ k)
 
-  pub updates_stop : (z : ℕ) (d : update-code.Update) {b : Bool} → z < n → b ≡ answer_at z d → b ≡ false
+  pub updates_stop : (z : ℕ) (d : update_code.Update) {b : Bool} → z < n → b ≡ answer_at z d → b ≡ false
       → allowedb D (later delay (take n values)) (take n news) (edge_of n e).updates ≡ false
   updates_stop z d h g k = whole ∙ all_stop (allowed_at D n delay values news e) z n h (sym (allowed_of z d h) ∙ sym g ∙ k)
 
@@ -181,7 +181,7 @@ bounded_in c z keep b = tt
 bounded_in c z (constant k) b = tt
 bounded_in c z (clock y up down) b = b.0
 
-module _ (file : List ℕ) (h : Head) (d : Describes file h) (number : ℕ) (l : number < h.edges) (e : edge-code.Edge)
+module _ (file : List ℕ) (h : Head) (d : Describes file h) (number : ℕ) (l : number < h.edges) (e : edge_code.Edge)
     (same : edge_of h.clocks.count e ≡ edge (table_of file) number) where
   admitted : Admitted (table_of file)
   admitted = let (k, p) = d.passes in admission_admitted file k p
@@ -226,7 +226,7 @@ stepped e D place s m leaves guarded allowed p q r = rw (← p, ← q, ← r) (g
     go true false c = refl
     go false b c = refl
 
-module _ (T : Table) (D place n : ℕ) (s : state-code.State) (m : Move) where
+module _ (T : Table) (D place n : ℕ) (s : state_code.State) (m : Move) where
   pub stays_refused : (s.number ≡ 0 → ⊥) → state_of n s ≡ one_more T D place (state_of n s) m
   unfolding carry
   stays_refused h = rw (ne_eqb s.number 0 h)

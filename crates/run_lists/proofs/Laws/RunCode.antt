@@ -27,7 +27,7 @@ use Rattle.calls.specs.Meaning.{Small, RunListOf}
 use Rattle.run_lists.specs.Run.{concluded, steps_from, run_from, counted}
 use Rattle.calls.specs.RunFile.{step_record, RunList, run_checked, run_answer}
 use Rattle.run_lists.specs.Step.{move_of, state_of, one_more}
-use Rattle.run_lists.specs.declared.step.State as state-code
+use Rattle.run_lists.specs.declared.step.State as state_code
 use Rattle.run_lists.proofs.Laws.OnePass.{stops, run_fused}
 use Rattle.calls.proofs.Laws.RecordReads.{record_missing, record_there, record_length}
 use Rattle.calls.proofs.Laws.Runs.{run_law, run_reached}
@@ -66,7 +66,7 @@ module _ (T : Table) (n : ℕ) (sized : n ≡ clocks T) (place at : ℕ) (list b
 -- the loop -------------------------------------------------------------------------------------------------------------------
 
 -- after i steps, with the bytes from place at on left: what is due from here on is what was due at first
-pub record Underway (T : Table) (D steps n L : ℕ) (list : List ℕ) (s : state-code.State) (at i : ℕ) : Type 0 where
+pub record Underway (T : Table) (D steps n L : ℕ) (list : List ℕ) (s : state_code.State) (at i : ℕ) : Type 0 where
   pub few : i ≤ steps
   pub near : at ≤ 6 + 24 * i
   pub inside : s.location < L
@@ -113,7 +113,7 @@ module _ (table : List ℕ) (h : Head) (d : Describes table h) (D steps : ℕ) (
         λ j. steps_from (table_of table) D steps 1 (sym z j) (good (record { location = sym d.initial j; values = sym v j }) []) (drop 6 list);
   }
 
-  module _ (s : state-code.State) (at i : ℕ) (U : Underway (table_of table) D steps h.clocks.count h.locations list s at i) where
+  module _ (s : state_code.State) (at i : ℕ) (U : Underway (table_of table) D steps h.clocks.count h.locations list s at i) where
     module _ (l : i < steps) (b : List ℕ) (is : b ≡ record_at list at (8 + 4 * h.clocks.count) ST) where
       pub ends_missing : length b ≡ 0 → refused 7 (i + 1) ≡ due
       ends_missing g = sym (ap counted (U.rest ∙ turn (table_of table) D steps i (state_of h.clocks.count s) (drop at list) l ∙ stops _ _ (step_missing (table_of table) h.clocks.count d.count (i + 1) at list b is g)))
@@ -122,7 +122,7 @@ module _ (table : List ℕ) (h : Head) (d : Describes table h) (D steps : ℕ) (
         pub ends_out : h.edges ≤ two b 2 → refused 8 (i + 1) ≡ due
         ends_out g = sym (ap counted (U.rest ∙ turn (table_of table) D steps i (state_of h.clocks.count s) (drop at list) l ∙ stops _ _ (step_out (table_of table) h.clocks.count d.count (i + 1) at list b is some (omega (arith, d.edges)))))
 
-        pub goes_round : two b 2 < h.edges → (s' : state-code.State)
+        pub goes_round : two b 2 < h.edges → (s' : state_code.State)
             → state_of h.clocks.count s' ≡ one_more (table_of table) D (i + 1) (state_of h.clocks.count s) (move_of h.clocks.count b)
             → s'.location < h.locations → Underway (table_of table) D steps h.clocks.count h.locations list s' (at + (8 + 4 * h.clocks.count)) (i + 1)
         goes_round g s' e k = record {
@@ -145,7 +145,7 @@ module _ (table : List ℕ) (h : Head) (d : Describes table h) (D steps : ℕ) (
 
 -- the end --------------------------------------------------------------------------------------------------------------------
 
-module _ (T : Table) (steps n : ℕ) (s : state-code.State) where
+module _ (T : Table) (steps n : ℕ) (s : state_code.State) where
   pub stands : (s.number ≡ 0 → ⊥) → refused s.number s.place ≡ counted (concluded T steps (state_of n s))
   unfolding concluded carry
   stands h = rw (ne_eqb s.number 0 h)

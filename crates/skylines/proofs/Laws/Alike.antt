@@ -13,7 +13,7 @@ use Rattle.automata.specs.Successors.{guardsb, edge_rows}
 use Rattle.automata.specs.Checks.{every}
 use Rattle.automata.proofs.Laws.Tests.{never}
 use Rattle.regions.specs.Values.{action_of, update_of, edge_of}
-use Rattle.regions.specs.declared.edge.Edge as edge-code
+use Rattle.regions.specs.declared.edge.Edge as edge_code
 use Rattle.regions.proofs.Laws.Moves.{no_update}
 use Rattle.regions.proofs.Laws.Values.{get_or_mapped}
 use Rattle.skylines.specs.Reach.{low_end, high_end, ReachOf}
@@ -77,6 +77,6 @@ module _ (n : ℕ) (e : Edge) where
   reads_all k R l z g = R.so_far z (omega arith)
 
 -- the update that the code reads is the edge's
-pub constant_at : (n : ℕ) (e : edge-code.Edge) (z : ℕ) → n ≤ 4 → length e.updates ≡ 4 → z < n
+pub constant_at : (n : ℕ) (e : edge_code.Edge) (z : ℕ) → n ≤ 4 → length e.updates ≡ 4 → z < n
     → constantb (get_or (edge_of n e).updates z idle).action ≡ constantb (action_of (get_or e.updates z no_update).action)
 constant_at n e z few four l = ap (λ (u : Update). constantb u.action) (get_or_mapped update_of n e.updates z no_update idle (omega arith) l)

@@ -19,8 +19,8 @@ use Rattle.automata.proofs.Laws.Tests.{never, and_law, leb_law, allb_law}
 use Rattle.regions.specs.Values.{row_of, update_of, action_of, edge_of}
 use Rattle.regions.specs.declared.region.Region.{Region}
 use Rattle.regions.specs.declared.edge.Action.TheVariants.{Keep}
-use Rattle.regions.specs.declared.edge.Edge as edge-code
-use Rattle.regions.specs.declared.edge.Update as update-code
+use Rattle.regions.specs.declared.edge.Edge as edge_code
+use Rattle.regions.specs.declared.edge.Update as update_code
 use Rattle.regions.proofs.Laws.Values.{allb_fails}
 use Rattle.skylines.specs.Reach.{underb, overb, place, place_of, upb, downb, low_end, high_end, low_at, high_at, ReachOf, withinb}
 
@@ -105,10 +105,10 @@ at_map_take f (suc n) zero (x ∷ xs) d h = refl
 at_map_take f (suc n) (suc z) (x ∷ xs) d h = at_map_take f n z xs d (omega arith)
 
 -- what stands where an array of updates has ended
-abbrev pub no_update : update-code.Update
+abbrev pub no_update : update_code.Update
 no_update = record { action = Keep; comparison = 0 }
 
-module _ (n : ℕ) (e : edge-code.Edge) (z : ℕ) (l : z < n) where
+module _ (n : ℕ) (e : edge_code.Edge) (z : ℕ) (l : z < n) where
   pub update_is : get_or (edge_of n e).updates z idle ≡ update_of (get_or e.updates z no_update)
   update_is = at_map_take update_of n z e.updates no_update l
 

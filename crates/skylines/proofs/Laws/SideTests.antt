@@ -14,9 +14,9 @@ use Rattle.automata.specs.Clocks.{allb}
 use Rattle.automata.specs.Rows.{from}
 use Rattle.automata.specs.Edge.{idle}
 use Rattle.regions.specs.Values.{update_of, edge_of}
-use Rattle.regions.specs.declared.edge.Action as action-code
-use Rattle.regions.specs.declared.edge.Edge as edge-code
-use Rattle.regions.specs.declared.edge.Update as update-code
+use Rattle.regions.specs.declared.edge.Action as action_code
+use Rattle.regions.specs.declared.edge.Edge as edge_code
+use Rattle.regions.specs.declared.edge.Update as update_code
 use Rattle.regions.proofs.Laws.Moves.{no_update}
 use Rattle.regions.proofs.Laws.Values.{get_or_mapped, allb_more, allb_fails, allb_end}
 use Rattle.skylines.specs.Sides.{halved, two_sided, sided_update, sided_at, may_choose, is_choice}
@@ -37,8 +37,8 @@ module _ (cmp : ℕ) where
   unfolding sides_alone
   both_sides l g = rw (l, g)
 
-module _ (u : update-code.Update) where
-  pub clock_sides : (y up down : ℕ) → u.action ≡ action-code.TheVariants.Clock y up down → sides_alone u.comparison ≡ two_sided (update_of u)
+module _ (u : update_code.Update) where
+  pub clock_sides : (y up down : ℕ) → u.action ≡ action_code.TheVariants.Clock y up down → sides_alone u.comparison ≡ two_sided (update_of u)
   clock_sides y up down e = rw e
 
   pub not_sided : (b : Bool) → two_sided (update_of u) ≡ false → update_of u ≡ sided_update (update_of u) b
@@ -52,7 +52,7 @@ module _ (u : update-code.Update) where
 
 -- clock by clock ----------------------------------------------------------------------------------------------------------------
 
-module _ (n : ℕ) (e : edge-code.Edge) (k : ℕ) where
+module _ (n : ℕ) (e : edge_code.Edge) (k : ℕ) where
   -- the sides of the clocks before z may be chosen, and the bits from z on are left
   pub record Choosing (rest z : ℕ) : Type 0 where
     pub within : z ≤ n
@@ -64,7 +64,7 @@ module _ (n : ℕ) (e : edge-code.Edge) (k : ℕ) where
   none_chosen = record { within = omega arith; left = refl; so_far = refl }
 
   -- the updates before z are by their sides
-  pub record Siding (updates : List update-code.Update) (rest z : ℕ) : Type 0 where
+  pub record Siding (updates : List update_code.Update) (rest z : ℕ) : Type 0 where
     pub within : z ≤ n
     pub left : rest ≡ halved k z
     pub sized : length updates ≡ 4
@@ -94,8 +94,8 @@ module _ (n : ℕ) (e : edge-code.Edge) (k : ℕ) where
     unfolding halved
     none_sided = record { within = omega arith; left = refl; sized = four; so_far = λ j h. absurd (omega arith) }
 
-    module _ (updates : List update-code.Update) (rest z : ℕ) (w : Siding updates rest z) where
-      pub one_sided : z < n → (u : update-code.Update) → update_of u ≡ sided_update (update_of (get_or e.updates z no_update)) (eqb (rest % 2) 1) → Siding (set updates z u) (rest / 2) (z + 1)
+    module _ (updates : List update_code.Update) (rest z : ℕ) (w : Siding updates rest z) where
+      pub one_sided : z < n → (u : update_code.Update) → update_of u ≡ sided_update (update_of (get_or e.updates z no_update)) (eqb (rest % 2) 1) → Siding (set updates z u) (rest / 2) (z + 1)
       one_sided l u q = record {
         within = omega arith;
         left = halved_more k z w.left;

@@ -254,13 +254,13 @@ locations_read place (suc n) f finals left h =
     parts _ _ h λ t f1 e1 h1.
     parts _ _ h1 λ more f2 e2 h2.
     let (x, y) = same_read h2 in
-    let (w, l, t-is, one) = location_read place f t f1 e1 in
+    let (w, l, t_is, one) = location_read place f t f1 e1 in
     let others = locations_read (place + 1) n f1 more f2 e2 in
     record {
       flags = w ∷ others.flags;
       sized = ap suc others.sized;
       low = cons_all (λ (x : ℕ). x ≤ 3) l others.low;
-      finals_are = (λ i. t-is i ∷ others.finals_are i) ∙ x;
+      finals_are = (λ i. t_is i ∷ others.finals_are i) ∙ x;
       whole = one ∙ (λ i. location_bytes w ++ others.whole i) ∙ (λ i. location_bytes w ++ (gather location_bytes others.flags ++ y i));
     }
 

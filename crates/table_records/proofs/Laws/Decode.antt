@@ -6,8 +6,8 @@ use mathlib.Core.List.{List, map}
 use lib.ListN.{length, take}
 use Rattle.automata.specs.Clocks.{at}
 use Rattle.regions.specs.Values.{guard_of, update_of, edge_of}
-use Rattle.regions.specs.declared.edge.Guard as guard-code
-use Rattle.regions.specs.declared.edge.Update as update-code
+use Rattle.regions.specs.declared.edge.Guard as guard_code
+use Rattle.regions.specs.declared.edge.Update as update_code
 use Rattle.table_files.specs.Records.{part_at}
 use Rattle.table_files.specs.TableFile.{update}
 use Rattle.table_records.specs.Edge.{size_of, guards_from, fields_from, edge_at, after_edge, Stands}
@@ -42,7 +42,7 @@ module _ {n : ℕ} {file : List ℕ} {p : ℕ} (stands : Stands n file p) where
         pub rest_sized : length d ≡ size_of (at b 4) n
         rest_sized = ap length rest ∙ (part_there file (p + 5) size rest_fits).1 ∙ sized
 
-        module _ (gs : List guard-code.Guard) (us : List update-code.Update) (guards : map guard_of (take (at b 4) gs) ≡ guards_from d (at b 4))
+        module _ (gs : List guard_code.Guard) (us : List update_code.Update) (guards : map guard_of (take (at b 4) gs) ≡ guards_from d (at b 4))
             (updates : map update_of (take n us) ≡ map update (fields_from d (3 * at b 4) n)) where
           pub edge_is : edge_of n (record { source = at b 2; target = at b 3; guard_count = at b 4; guards = gs; updates = us }) ≡ edge_at n file p
           unfolding edge_at

@@ -82,9 +82,9 @@ module _ (file : List ℕ) (n L place p : ℕ) (b : List ℕ) (is : b ≡ record
       unfolding carry
       rest_short h = rest_due ∙ rw (bytes_lack file (p + 5) (size_of (at b 4) n) 1 place d part h)
 
-      module _ (rest-there : size_of (at b 4) n ≤ length d) where
+      module _ (rest_there : size_of (at b 4) n ≤ length d) where
         pub taken : Taken file (p + 5) (size_of (at b 4) n) 1 place d
-        taken = bytes_found file (p + 5) (size_of (at b 4) n) 1 place d part (λ z. found.fits) rest-there
+        taken = bytes_found file (p + 5) (size_of (at b 4) n) 1 place d part (λ z. found.fits) rest_there
 
         guards_fail : every (guard_in_range n) (guards_from d (at b 4)) ≡ false → whole ≡ bad 3 place
         guards_fail h = rest_due ∙ goes _ _ _ _ taken.reads ∙ fails 3 place (every (guard_in_range n) (guards_from d (at b 4))) _ _ h
@@ -118,21 +118,21 @@ module _ (file : List ℕ) (n L place p : ℕ) (b : List ℕ) (is : b ≡ record
       pub rest_lacks : length d < size → Refused 1 → Says
       rest_lacks h = refusal file _ 1 place s (rest_short file n L place p b is there ends d (rw sized at part) (rw sized at h)) (omega arith)
 
-      module _ (rest-there : size ≤ length d) where
+      module _ (rest_there : size ≤ length d) where
         pub edge_guards : every (guard_in_range n) (guards_from d (at b 4)) ≡ false → Refused 3 → Says
-        edge_guards h = refusal file _ 3 place s (guards_fail file n L place p b is there ends d (rw sized at part) (rw sized at rest-there) h) (omega arith)
+        edge_guards h = refusal file _ 3 place s (guards_fail file n L place p b is there ends d (rw sized at part) (rw sized at rest_there) h) (omega arith)
 
         pub rest_fits : p + 5 + size ≤ length file
-        rest_fits = rw sized (taken file n L place p b is there ends d (rw sized at part) (rw sized at rest-there)).fits
+        rest_fits = rw sized (taken file n L place p b is there ends d (rw sized at part) (rw sized at rest_there)).fits
 
         module _ (guards : every (guard_in_range n) (guards_from d (at b 4)) ≡ true) where
           pub edge_updates : every (fields_in_range n) (fields_from d (3 * at b 4) n) ≡ false → Refused 3 → Says
-          edge_updates h = refusal file _ 3 place s (updates_fail file n L place p b is there ends d (rw sized at part) (rw sized at rest-there) guards h) (omega arith)
+          edge_updates h = refusal file _ 3 place s (updates_fail file n L place p b is there ends d (rw sized at part) (rw sized at rest_there) guards h) (omega arith)
 
           pub edge_read : every (fields_in_range n) (fields_from d (3 * at b 4) n) ≡ true → (s.number ≡ 0) × (s.at ≡ p + 5 + size) → Says
           edge_read h =
               success file _ (edge_from n b d) (p + 5 + size) s
-              (updates_pass file n L place p b is there ends d (rw sized at part) (rw sized at rest-there) guards h ∙ (λ i. good (edge_from n b d) (drop (p + 5 + sym sized i) file))) rest_fits
+              (updates_pass file n L place p b is there ends d (rw sized at part) (rw sized at rest_there) guards h ∙ (λ i. good (edge_from n b d) (drop (p + 5 + sym sized i) file))) rest_fits
 
 -- by position ----------------------------------------------------------------------------------------------------------------
 

@@ -108,9 +108,9 @@ module _ (file b : List ℕ) (is : b ≡ record_at file 0 7 TA) where
       unfolding carry
       bounds_short h = bounds_due ∙ rw (bytes_lack file 7 (at b 2) 1 0 c part h)
 
-      module _ (bounds-there : at b 2 ≤ length c) where
+      module _ (bounds_there : at b 2 ≤ length c) where
         taken : Taken file 7 (at b 2) 1 0 c
-        taken = bytes_found file 7 (at b 2) 1 0 c part (λ z. found.fits) bounds-there
+        taken = bytes_found file 7 (at b 2) 1 0 c part (λ z. found.fits) bounds_there
 
         pub header_due : (7 ≤ length b) × ((at b 2 ≡ length c) × (length c ≤ 4))
         header_due = let t = taken.sized in let l = clocks_in in (there, (sym t, omega arith))
@@ -136,15 +136,15 @@ module _ (file b : List ℕ) (is : b ≡ record_at file 0 7 TA) (o : Opened) whe
       pub bounds_lack : length c < at b 2 → (o.number ≡ 1) × (o.place ≡ 0) → Headed file (header file) o
       bounds_lack h = refused_as 1 (bounds_short file b is there counts c part h) (omega arith)
 
-      module _ (bounds-there : at b 2 ≤ length c) where
+      module _ (bounds_there : at b 2 ≤ length c) where
         pub bounds_high : every low c ≡ false → (o.number ≡ 2) × (o.place ≡ 0) → Headed file (header file) o
-        bounds_high h = refused_as 2 (bounds_fail file b is there counts c part bounds-there h) (omega arith)
+        bounds_high h = refused_as 2 (bounds_fail file b is there counts c part bounds_there h) (omega arith)
 
         pub header_read : every low c ≡ true → {k : Head} → o.number ≡ 0 → o.head ≡ k → HeadOf (header_from b c) k → Headed file (header file) o
         header_read h {k} z e p =
-            let t = taken file b is there counts c part bounds-there in
+            let t = taken file b is there counts c part bounds_there in
             let n : at b 2 ≡ k.clocks.count = sym t.sized ∙ sym p.count in
-            rw (bounds_pass file b is there counts c part bounds-there h, e) (z, p, (λ i. drop (7 + n i) file), omega (arith, t.fits))
+            rw (bounds_pass file b is there counts c part bounds_there h, e) (z, p, (λ i. drop (7 + n i) file), omega (arith, t.fits))
 
 -- by position
 pub header_left : (file : List ℕ) (h : Header) (rest : List ℕ) → header file ≡ good h rest → rest ≡ drop (7 + length h.bounds) file

@@ -11,11 +11,11 @@ use Rattle.automata.specs.Edge.{Action, Edge, idle}
 use Rattle.automata.specs.Rows.{from}
 use Rattle.automata.specs.Checks.{every}
 use Rattle.regions.specs.Values.{bounds_of, guard_of, action_of, update_of, edge_of}
-use Rattle.regions.specs.declared.region.Clocks as clocks-code
-use Rattle.regions.specs.declared.edge.Guard as guard-code
-use Rattle.regions.specs.declared.edge.Action as action-code
-use Rattle.regions.specs.declared.edge.Update as update-code
-use Rattle.regions.specs.declared.edge.Edge as edge-code
+use Rattle.regions.specs.declared.region.Clocks as clocks_code
+use Rattle.regions.specs.declared.edge.Guard as guard_code
+use Rattle.regions.specs.declared.edge.Action as action_code
+use Rattle.regions.specs.declared.edge.Update as update_code
+use Rattle.regions.specs.declared.edge.Edge as edge_code
 use Rattle.table_files.specs.Reading.{Read, bad, carry, require}
 use Rattle.table_files.specs.Admission.{guard_bounded, constant_bounded, clock_bounded, each_update, edges_bounded}
 use Rattle.table_records.specs.Scan.{Scanned}
@@ -27,7 +27,7 @@ use Rattle.table_records.proofs.Laws.Scan.{refusal, success}
 use Rattle.table_records.proofs.Laws.Loops.{every_same, every_taken, every_map, allb_every}
 
 -- one clock's bound
-module _ (k : clocks-code.Clocks) (z : ℕ) where
+module _ (k : clocks_code.Clocks) (z : ℕ) where
   pub no_bound : k.count ≤ z → 0 ≡ at (bounds_of k) z
   no_bound h = sym (get_or-eq_default (bounds_of k) 0 (rw length-take (omega arith)))
 
@@ -35,20 +35,20 @@ module _ (k : clocks-code.Clocks) (z : ℕ) where
   some_bound h = sym (get_or-take k.count k.bounds z 0 h)
 
 -- what stands where an array has ended
-abbrev pub no_guard : guard-code.Guard
+abbrev pub no_guard : guard_code.Guard
 no_guard = record { clock = 0; comparison = 0; constant = 0 }
 
-abbrev pub no_update : update-code.Update
-no_update = record { action = action-code.TheVariants.Keep; comparison = 0 }
+abbrev pub no_update : update_code.Update
+no_update = record { action = action_code.TheVariants.Keep; comparison = 0 }
 
-module _ (k : clocks-code.Clocks) (e : edge-code.Edge) where
+module _ (k : clocks_code.Clocks) (e : edge_code.Edge) where
   -- the guards, one by one
   pub guards_each : e.guard_count ≤ length e.guards
       → every (guard_bounded (bounds_of k)) (edge_of k.count e).guards
       ≡ every (λ (i : ℕ). guard_bounded (bounds_of k) (guard_of (get_or e.guards i no_guard))) (from 0 e.guard_count)
   guards_each h =
       every_map (guard_bounded (bounds_of k)) guard_of (take e.guard_count e.guards)
-      ∙ every_taken (λ (g : guard-code.Guard). guard_bounded (bounds_of k) (guard_of g)) e.guards e.guard_count no_guard h
+      ∙ every_taken (λ (g : guard_code.Guard). guard_bounded (bounds_of k) (guard_of g)) e.guards e.guard_count no_guard h
 
   -- the updates, clock by clock
   pub updates_each : (test : List ℕ → ℕ → Action → Bool) → k.count ≤ length k.bounds

@@ -14,7 +14,7 @@ use Rattle.automata.specs.Checks.{has}
 use Rattle.automata.proofs.Laws.Tests.{never}
 use Rattle.regions.specs.Values.{bounds_of, edge_of}
 use Rattle.regions.specs.declared.region.Clocks.{Clocks}
-use Rattle.regions.specs.declared.edge.Edge as edge-code
+use Rattle.regions.specs.declared.edge.Edge as edge_code
 use Rattle.skylines.specs.Sides.{sided, is_choice}
 use Rattle.skylines.proofs.Laws.Sides.{sided_bounded, sides_every}
 use Rattle.listed_rows.specs.Listed.{listed_row, listed_rows}
@@ -28,7 +28,7 @@ unfolding sided
 sided_ends n e k = (refl, refl)
 
 -- the edge that the code takes is for the same list and clocks
-module _ (k : Clocks) (e s : edge-code.Edge) (j : ℕ) (means : edge_of k.count s ≡ sided k.count (edge_of k.count e) j) where
+module _ (k : Clocks) (e s : edge_code.Edge) (j : ℕ) (means : edge_of k.count s ≡ sided k.count (edge_of k.count e) j) where
   pub side_source : s.source ≡ e.source
   side_source = ap (λ (d : Edge). d.source) means ∙ (sided_ends k.count (edge_of k.count e) j).0
 

@@ -1,6 +1,6 @@
 use Rattle.automata.specs.Clocks.{allb}
 use Rattle.regions.specs.Values.{action_of}
-use Rattle.regions.specs.declared.edge.Action as action-code
+use Rattle.regions.specs.declared.edge.Action as action_code
 use Rattle.regions.specs.declared.edge.Update.{Update}
 use Rattle.run_lists.proofs.Laws.OneStep.{action_in, updates_on, updates_stop, updates_end}
 use borrow.Author.Rules.{rules}
@@ -20,7 +20,7 @@ allows-requires-clause-z_bound c =
 
 pub allows-requires-clause-action_in : goal.allows-requires-clause-action_in
 allows-requires-clause-action_in c =
-    let d : Update = record { action = action-code.TheVariants.Keep; comparison = 0 } in
+    let d : Update = record { action = action_code.TheVariants.Keep; comparison = 0 } in
     action_in c.args.n 4 (omega arith) (action_of (get_or c.args.e.updates c.loop-z.z d).action) (c.requires.names.updates c.loop-z.z c.loop-z-test.true d)
 
 pub returns-then-not-allows : goal.returns-then-not-allows

@@ -11,7 +11,7 @@ use Rattle.selection.proofs.grouping.lodge.Goals as goal
 
 pub returns-then-already : goal.returns-then-already
 returns-then-already c =
-    let e = edge_of c.args.clocks.count c.args.e in let cs = bounds_of c.args.clocks in λ lo hi from to in_List held. lodges_taken cs e c.args.clocks.count c.args.list.now lo hi c.args.i c.args.already c.args.slots.now held c.if-already.true
+    let e = edge_of c.args.clocks.count c.args.e in let cs = bounds_of c.args.clocks in λ lo hi from to in_list held. lodges_taken cs e c.args.clocks.count c.args.list.now lo hi c.args.i c.args.already c.args.slots.now held c.if-already.true
 
 pub row_at-row-requires-clause-n_bound : goal.row_at-row-requires-clause-n_bound
 row_at-row-requires-clause-n_bound c =
@@ -23,7 +23,7 @@ row_at-row-requires-clause-has_row c =
 
 pub returns-then-not-guards_hold : goal.returns-then-not-guards_hold
 returns-then-not-guards_hold c =
-    let e = edge_of c.args.clocks.count c.args.e in let cs = bounds_of c.args.clocks in λ lo hi from to in_List held. lodges_blocked cs e c.args.clocks.count c.args.list.now lo hi c.args.i c.args.already c.args.slots.now held (ap (λ (r : Row). guardsb r e.guards) (sym (listed_again c.args.clocks.count c.args.list.now _ _ c.row_at-row.ensures)) ∙ sym c.guards_hold.ensures ∙ c.if-not-guards_hold.true)
+    let e = edge_of c.args.clocks.count c.args.e in let cs = bounds_of c.args.clocks in λ lo hi from to in_list held. lodges_blocked cs e c.args.clocks.count c.args.list.now lo hi c.args.i c.args.already c.args.slots.now held (ap (λ (r : Row). guardsb r e.guards) (sym (listed_again c.args.clocks.count c.args.list.now _ _ c.row_at-row.ensures)) ∙ sym c.guards_hold.ensures ∙ c.if-not-guards_hold.true)
 
 pub loop-d-init : goal.loop-d-init
 loop-d-init c =
@@ -59,7 +59,7 @@ lodge_in-requires-clause-k_bound c =
 
 pub returns-then-lodge_in : goal.returns-then-lodge_in
 returns-then-lodge_in c =
-    let e = edge_of c.args.clocks.count c.args.e in let cs = bounds_of c.args.clocks in λ lo hi from to in_List held. lodges_new cs e c.args.clocks.count c.args.list.now lo hi c.args.i c.args.already c.args.slots.now _ true (rw (c.loop-d.invariant.1, c.if-lodge_in.true) at (c.lodge_in.ensures.lodges lo hi from to in_List (rw c.loop-d.invariant.1 held)))
+    let e = edge_of c.args.clocks.count c.args.e in let cs = bounds_of c.args.clocks in λ lo hi from to in_list held. lodges_new cs e c.args.clocks.count c.args.list.now lo hi c.args.i c.args.already c.args.slots.now _ true (rw (c.loop-d.invariant.1, c.if-lodge_in.true) at (c.lodge_in.ensures.lodges lo hi from to in_list (rw c.loop-d.invariant.1 held)))
 
 pub loop-d-smaller : goal.loop-d-smaller
 loop-d-smaller c =
@@ -71,4 +71,4 @@ loop-d-preserved c =
 
 pub returns : goal.returns
 returns c =
-    let e = edge_of c.args.clocks.count c.args.e in let cs = bounds_of c.args.clocks in λ lo hi from to in_List held. rw c.loop-d.invariant.1 (lodges_none cs e c.args.clocks.count c.args.list.now lo hi c.args.i c.args.already c.args.slots.now held)
+    let e = edge_of c.args.clocks.count c.args.e in let cs = bounds_of c.args.clocks in λ lo hi from to in_list held. rw c.loop-d.invariant.1 (lodges_none cs e c.args.clocks.count c.args.list.now lo hi c.args.i c.args.already c.args.slots.now held)

@@ -20,7 +20,7 @@ row_at-requires-clause-has_row c =
 
 pub returns-then-is_within-clause-lodges : goal.returns-then-is_within-clause-lodges
 returns-then-is_within-clause-lodges c =
-    let e = edge_of c.args.clocks.count c.args.e in let cs = bounds_of c.args.clocks in λ lo hi from to in_List held. lodges_covered cs e c.args.clocks.count c.args.list.now lo hi c.args.i false c.args.slots.now held c.requires.listed.sized c.requires.listed.few.few (λ j h. c.requires.listed.are_rows j (omega arith)) from to c.requires.offered.located c.requires.offered.guarded c.args.own c.requires.reach_of c.args.k c.requires.k_bound (at c.args.slots.now c.args.k - 1) (omega (arith, c.if-holder-ne0.true)) _ (rw (listed_again c.args.clocks.count c.args.list.now _ _ c.row_at.ensures) at c.reach_of-other.ensures) (sym c.is_within.ensures ∙ c.if-is_within.true)
+    let e = edge_of c.args.clocks.count c.args.e in let cs = bounds_of c.args.clocks in λ lo hi from to in_list held. lodges_covered cs e c.args.clocks.count c.args.list.now lo hi c.args.i false c.args.slots.now held c.requires.listed.sized c.requires.listed.few.few (λ j h. c.requires.listed.are_rows j (omega arith)) from to c.requires.offered.located c.requires.offered.guarded c.args.own c.requires.reach_of c.args.k c.requires.k_bound (at c.args.slots.now c.args.k - 1) (omega (arith, c.if-holder-ne0.true)) _ (rw (listed_again c.args.clocks.count c.args.list.now _ _ c.row_at.ensures) at c.reach_of-other.ensures) (sym c.is_within.ensures ∙ c.if-is_within.true)
 
 pub returns-then-is_within-clause-left : goal.returns-then-is_within-clause-left
 returns-then-is_within-clause-left c =
@@ -28,7 +28,7 @@ returns-then-is_within-clause-left c =
 
 pub returns-then-not-is_within-clause-lodges : goal.returns-then-not-is_within-clause-lodges
 returns-then-not-is_within-clause-lodges c =
-    let e = edge_of c.args.clocks.count c.args.e in let cs = bounds_of c.args.clocks in λ lo hi from to in_List held. lodges_none cs e c.args.clocks.count c.args.list.now lo hi c.args.i false c.args.slots.now held
+    let e = edge_of c.args.clocks.count c.args.e in let cs = bounds_of c.args.clocks in λ lo hi from to in_list held. lodges_none cs e c.args.clocks.count c.args.list.now lo hi c.args.i false c.args.slots.now held
 
 pub returns-then-not-is_within-clause-left : goal.returns-then-not-is_within-clause-left
 returns-then-not-is_within-clause-left c =
@@ -36,7 +36,7 @@ returns-then-not-is_within-clause-left c =
 
 pub returns-clause-lodges : goal.returns-clause-lodges
 returns-clause-lodges c =
-    let e = edge_of c.args.clocks.count c.args.e in let cs = bounds_of c.args.clocks in λ lo hi from to in_List held. elim c.if-holder-ne0.branch [
+    let e = edge_of c.args.clocks.count c.args.e in let cs = bounds_of c.args.clocks in λ lo hi from to in_list held. elim c.if-holder-ne0.branch [
       | then-holder-ne0+else-is_within+else-not-is_within w ↦ lodges_instead cs e c.args.clocks.count c.args.list.now lo hi c.args.i false c.args.slots.now held c.requires.listed.sized c.requires.listed.few.few (λ j h. c.requires.listed.are_rows j (omega arith)) from to c.requires.offered.located c.requires.offered.guarded c.args.own c.requires.reach_of c.args.k c.requires.k_bound (at c.args.slots.now c.args.k - 1) (omega (arith, w.if-holder-ne0.true)) _ (rw (listed_again c.args.clocks.count c.args.list.now _ _ w.row_at.ensures) at w.reach_of-other.ensures) (sym w.is_within-then-holder-ne0.ensures ∙ w.if-not-is_within.false) c.requires.slots_len
       | else-holder-ne0 w ↦ lodges_free cs e c.args.clocks.count c.args.list.now lo hi c.args.i false c.args.slots.now held c.requires.listed.sized c.requires.listed.few.few (λ j h. c.requires.listed.are_rows j (omega arith)) from to c.requires.offered.located c.requires.offered.guarded c.args.own c.requires.reach_of c.args.k c.requires.k_bound c.requires.slots_len w.if-holder-ne0.false
     ]
