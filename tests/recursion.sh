@@ -324,12 +324,14 @@ for folder in crates/*; do
 done
 said=$(cycles "$work"/crates/*.mir)
 settled 'the crates of the library' $? "$said"
-for program in tzelmaruf maker; do
-  if [ -x target/bin/$program ]; then
-    said=$(code_cycles target/bin/$program)
-    settled "target/bin/$program" $? "$said"
+# the test program stays where rt builds it
+(cd crates/follow && rt run) > "$work/said" 2>&1 < /dev/null || bad "crates/follow: $(complaints)"
+for program in target/bin/tzelmaruf target/bin/maker crates/follow/out/follow; do
+  if [ -x "$program" ]; then
+    said=$(code_cycles "$program")
+    settled "$program" $? "$said"
   else
-    bad "there is no target/bin/$program: build it with 'commands/build $program'"
+    bad "there is no $program: build it with 'commands/build ${program##*/}', or 'rt run' in its crate"
   fi
 done
 for file in host/*.c; do
