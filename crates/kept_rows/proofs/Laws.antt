@@ -5,4 +5,3 @@ pub mod Inserting
 pub mod Moved
 pub mod Parts
 pub mod RowBytes
-pub mod Total

@@ -12,6 +12,7 @@ use Rattle.automata.specs.Row.{Row, IsRow, Below}
 use Rattle.automata.specs.Closed.{Mem, Ascends}
 use Rattle.automata.specs.Rows.{from}
 use Rattle.automata.specs.Checks.{belowb, has}
+use Rattle.automata.proofs.Laws.Insert.{below_total}
 use Rattle.automata.proofs.Laws.Order.{Tri, is_lt, is_eq, is_gt, tri}
 use Rattle.automata.proofs.Laws.Tests.{refutes}
 use Rattle.automata.proofs.Laws.Checks.{belowb_law, has_law}
@@ -22,7 +23,6 @@ use Rattle.listed_rows.specs.Listed.{listed_row, listed_rows, Listed, Splits}
 use Rattle.listed_rows.proofs.Laws.Listed.{listed_in, in_listed, listed_rise}
 use Rattle.kept_rows.specs.Births.{birth}
 use Rattle.kept_rows.specs.Inserted.{RowIs, SameRow, Inserted}
-use Rattle.kept_rows.proofs.Laws.Total.{below_total}
 
 -- each below the next
 ascends_from : (f : ℕ → Row) (a n : ℕ) → ((i : ℕ) → a ≤ i → suc i < a + n → Below (f i) (f (suc i))) → Ascends (map f (from a n))
