@@ -4,6 +4,7 @@ pub mod Tests
 pub mod Order
 pub mod Comparison
 pub mod Lists
+pub mod Chains
 pub mod Members
 pub mod Ordered
 pub mod Count

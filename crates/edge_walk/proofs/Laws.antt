@@ -7,7 +7,6 @@ pub mod Intervals
 pub mod Meet
 -- the first above a floor, the rows of an edge's way, the walk along it
 pub mod First
-pub mod Trim
 pub mod Way
 pub mod Along
 pub mod Visit

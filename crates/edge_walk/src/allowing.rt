@@ -13,24 +13,9 @@ impl Search {
         requires { Ready self }
         ensures { result ≡ allowsb self (row_of self.clocks.count region) }
     {
-        let n = self.clocks.count as usize;
-        let moves = self.moves;
-        let mut by_parts = false;
-        let mut z = 0;
-        while z < n {
-            let asked = moves.each[z];
-            let interval = region.intervals[z];
-            if !asked.permits(interval) {
-                return false;
-            }
-            if asked.is_by_parts(interval) {
-                by_parts = true;
-            }
-            z += 1;
-        }
-        if !by_parts {
-            return true;
-        }
-        moves.are_placed(region, n)
+        let n = usize::from(self.clocks.count);
+        (0..n).all(|z| self.moves.each[z].permits(region.intervals[z]))
+            && (!(0..n).any(|z| self.moves.each[z].is_by_parts(region.intervals[z]))
+                || self.moves.are_placed(region, n))
     }
 }

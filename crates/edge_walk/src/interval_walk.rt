@@ -18,7 +18,7 @@ impl Search {
         ensures step { Advance self (λ x. (at.depth ≡ 1 + self.clocks.count) × Begun self at x) at result }
         ensures chosen { Chosen self result }
     {
-        let n = self.clocks.count as usize;
+        let n = usize::from(self.clocks.count);
         let depth = at.depth;
         if depth == 1 + n {
             return step_back(n, at);
@@ -27,15 +27,13 @@ impl Search {
         if 32767 < at.least {
             return step_back(n, at);
         }
-        let moves = self.moves;
-        let asked = moves.each[depth - 1];
+        let asked = self.moves.each[depth - 1];
         let choice = asked.next_permitted(at.least as u16);
         if asked.top < choice {
             return step_back(n, at);
         }
-        let part = at.part;
         Stand {
-            part: part.with_number(n, depth, choice),
+            part: at.part.with_number(n, depth, choice),
             depth: depth + 1,
             least: 0,
         }

@@ -21,7 +21,7 @@ pub fn start_in(location: u8) -> Stand
 {
     Stand {
         part: Region {
-            location: location,
+            location,
             intervals: [0; 4],
             ranks: [0; 4],
         },
@@ -37,11 +37,10 @@ pub fn step_back(n: usize, at: Stand) -> Stand
     ensures { result ≡ back n at }
 {
     let depth = at.depth - 1;
-    let part = at.part;
     Stand {
-        part: part,
-        depth: depth,
-        least: (part.number(n, depth) as u32) + 1,
+        depth,
+        least: u32::from(at.part.number(n, depth)) + 1,
+        ..at
     }
 }
 
@@ -55,32 +54,29 @@ impl Search {
         requires depth_bound { done ≡ false → at.depth < 1 + 2 * self.clocks.count }
         ensures { Advance self (λ x. (done ≡ true) × Begun self at x) at result }
     {
-        let n = self.clocks.count as usize;
+        let n = usize::from(self.clocks.count);
         if done {
             return step_back(n, at);
         }
-        let part = at.part;
-        let depth = at.depth;
         // no choice is above 32,767, though a number of the region that the walk went on from may be
         if 32767 < at.least {
             return step_back(n, at);
         }
-        let choices = self.choices(part, depth, at.least as u16);
+        let choices = self.choices(at.part, at.depth, at.least as u16);
         let choice = choices.least;
         if choices.last < choice {
             return step_back(n, at);
         }
-        let further = part.with_number(n, depth, choice);
-        if self.is_stuck(further, depth + 1) {
+        let further = at.part.with_number(n, at.depth, choice);
+        if self.is_stuck(further, at.depth + 1) {
             return Stand {
-                part: part,
-                depth: depth,
-                least: (choice as u32) + 1,
+                least: u32::from(choice) + 1,
+                ..at
             };
         }
         Stand {
             part: further,
-            depth: depth + 1,
+            depth: at.depth + 1,
             least: 0,
         }
     }

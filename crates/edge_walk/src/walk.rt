@@ -18,21 +18,20 @@ use regions::region::{Clocks, Region, Sought, missing};
 
 impl Search {
     // The least region that is ahead of a walk which stands there.
+    #[tactic(auto, using(crate::proofs::Laws::Meet::one_met, crate::proofs::Laws::Meet::not_all, crate::proofs::Laws::Meet::nothing_met))]
     fn meet(self, start: Stand) -> Sought
         requires ready { Ready self }
         requires standing { Standing self start }
         ensures { Answers (Ahead self start) result }
     {
-        let clocks = self.clocks;
-        let all = 1 + 2 * (clocks.count as usize);
+        let all = 1 + 2 * usize::from(self.clocks.count);
         let mut at = start;
         while 0 < at.depth {
-            let part = at.part;
             let done = at.depth == all;
-            if is_met(clocks, part, done) {
+            if is_met(self.clocks, at.part, done) {
                 return Sought {
                     found: true,
-                    region: part,
+                    region: at.part,
                 };
             }
             at = self.step(at, done);
@@ -46,10 +45,7 @@ fn is_met(clocks: Clocks, part: Region, chosen: bool) -> bool
     requires { Few clocks }
     ensures { result ≡ (chosen && isrowb (bounds_of clocks) (row_of clocks.count part)) }
 {
-    if !chosen {
-        return false;
-    }
-    part.is_region(clocks)
+    chosen && part.is_region(clocks)
 }
 
 // The region with zeros from number n of its intervals and of its ranks on, so that it is one of n clocks.
@@ -58,12 +54,8 @@ fn trimmed(n: usize, region: Region) -> Region
     ensures { result ≡ region_of (row_of n region) }
 {
     let mut plain = region;
-    let mut z = n;
-    while z < 4 {
-        plain.intervals[z] = 0;
-        plain.ranks[z] = 0;
-        z += 1;
-    }
+    plain.intervals[n..].fill(0);
+    plain.ranks[n..].fill(0);
     plain
 }
 
@@ -84,44 +76,32 @@ fn after(n: usize, region: Region) -> Stand
 fn is_past(floor: Sought, location: u8) -> bool
     ensures { result ≡ (floor.found && ltb location floor.region.location) }
 {
-    if !floor.found {
-        return false;
-    }
-    let region = floor.region;
-    location < region.location
+    floor.found && location < floor.region.location
 }
 
 // Whether there is a floor, and it is in the location.
 fn is_at(floor: Sought, location: u8) -> bool
     ensures { result ≡ (floor.found && eqb floor.region.location location) }
 {
-    if !floor.found {
-        return false;
-    }
-    let region = floor.region;
-    region.location == location
+    floor.found && floor.region.location == location
 }
 
 impl Way {
     // The least region on the way above the floor, or the first where there is no floor; or none. Where the floor is in the target, the walk goes on right
     // past it, whether it was met or not.
+    #[tactic(auto, using(crate::proofs::Laws::Along::nowhere, crate::proofs::Laws::Along::all_below, crate::proofs::Laws::Along::stands_after))]
     pub fn next(self, floor: Sought) -> Sought
         requires { Ready self.search }
         ensures { result ≡ sought (first_above (found_of self.search.clocks.count floor) (way_rows self)) }
     {
-        let location = self.target;
-        if !self.leads {
+        if !self.leads || is_past(floor, self.target) {
             return missing();
         }
-        if is_past(floor, location) {
-            return missing();
+        if is_at(floor, self.target) {
+            let n = usize::from(self.search.clocks.count);
+            return self.search.meet(after(n, floor.region));
         }
-        let search = self.search;
-        if is_at(floor, location) {
-            let n = search.clocks.count as usize;
-            return search.meet(after(n, floor.region));
-        }
-        search.meet(start_in(location))
+        self.search.meet(start_in(self.target))
     }
 }
 
@@ -134,6 +114,5 @@ pub fn next_region(clocks: Clocks, from: Region, e: Edge, floor: Sought) -> Soug
     requires bounded { Bounded (bounds_of clocks) (edge_of clocks.count e) }
     ensures { result ≡ sought (first_above (found_of clocks.count floor) (edge_rows (bounds_of clocks) (edge_of clocks.count e) (row_of clocks.count from))) }
 {
-    let way = way_by(clocks, from, e);
-    way.next(floor)
+    way_by(clocks, from, e).next(floor)
 }

@@ -20,6 +20,7 @@ pub struct Way {
 }
 
 // The way from a region in the edge's source where its guards hold.
+#[tactic(auto, using(crate::proofs::Laws::Way::low_tops, crate::proofs::Laws::Way::way_is))]
 pub fn open_way(clocks: Clocks, from: Region, e: Edge) -> Way
     requires few { Few clocks }
     requires row { IsRow (bounds_of clocks) (row_of clocks.count from) }
@@ -31,12 +32,9 @@ pub fn open_way(clocks: Clocks, from: Region, e: Edge) -> Way
 {
     let moves = from.moves(clocks, e);
     Way {
-        leads: moves.all_permit(clocks.count as usize),
+        leads: moves.all_permit(usize::from(clocks.count)),
         target: e.target,
-        search: Search {
-            clocks: clocks,
-            moves: moves,
-        },
+        search: Search { clocks, moves },
     }
 }
 
@@ -47,13 +45,11 @@ pub fn is_enabled(clocks: Clocks, from: Region, e: Edge) -> bool
     requires bounded { Bounded (bounds_of clocks) (edge_of clocks.count e) }
     ensures { result ≡ (eqb from.location e.source && guardsb (row_of clocks.count from) (edge_of clocks.count e).guards) }
 {
-    if from.location != e.source {
-        return false;
-    }
-    from.guards_hold(clocks, e)
+    from.location == e.source && from.guards_hold(clocks, e)
 }
 
 // The way from any region. Its search is worked out even where it leads nowhere, so that it is always ready.
+#[tactic(auto, using(crate::proofs::Laws::Way::no_way))]
 pub fn way_by(clocks: Clocks, from: Region, e: Edge) -> Way
     requires few { Few clocks }
     requires guard_count_bound { e.guard_count ≤ 8 }
@@ -64,13 +60,12 @@ pub fn way_by(clocks: Clocks, from: Region, e: Edge) -> Way
     ensures rows { way_rows result ≡ edge_rows (bounds_of clocks) (edge_of clocks.count e) (row_of clocks.count from) }
 {
     let way = open_way(clocks, from, e);
-    if !is_enabled(clocks, from, e) {
-        let search = way.search;
-        return Way {
+    if is_enabled(clocks, from, e) {
+        way
+    } else {
+        Way {
             leads: false,
-            target: way.target,
-            search: search,
-        };
+            ..way
+        }
     }
-    way
 }

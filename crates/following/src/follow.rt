@@ -59,8 +59,7 @@ fn write_one(buffer: &mut [u8], clocks: Clocks, next: Sought) -> Followed
     if buffer.len() < width_of(clocks) {
         return Followed::Refused(19, 0);
     }
-    let region = next.region;
-    write_row(buffer, clocks.count as usize, region);
+    write_row(buffer, clocks.count as usize, next.region);
     Followed::Written(1)
 }
 
@@ -71,9 +70,8 @@ fn follow_way(buffer: &mut [u8], way: Way) -> Followed
     ensures answer { answer_of result ≡ told (fits (way_rows way) (length buffer.old)) (way_rows way) }
     ensures buffer { buffer.new ≡ put (fits (way_rows way) (length buffer.old)) (way_rows way) buffer.old }
 {
-    let search = way.search;
     let count = way_count(way);
-    if !all_fit(search.clocks, count, buffer.len()) {
+    if !all_fit(way.search.clocks, count, buffer.len()) {
         return Followed::Refused(19, 0);
     }
     write_all(buffer, way);
@@ -144,6 +142,5 @@ pub fn follow(table: &[u8], row: &[u8], number: u16, buffer: &mut [u8]) -> Follo
     if head.edges <= number {
         return Followed::Refused(18, 0);
     }
-    let e = edge_at(table, head, number);
-    follow_edge(buffer, clocks, from, e)
+    follow_edge(buffer, clocks, from, edge_at(table, head, number))
 }

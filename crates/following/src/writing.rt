@@ -63,12 +63,10 @@ fn write_ranked(
     let first = first_ranking(clocks, part);
     let count = rankings_of(clocks, part);
     let mut at = 0;
-    let mut j = 0;
-    while j < count {
+    for j in 0..count {
         let region = ranked_from(rankings, clocks, part, first, j);
         let wanted = is_allowed(memo, parts * 150 + (first + j), parts, moves, region, n);
         at += write_if(&mut buffer[at..], n, region, wanted);
-        j += 1;
     }
     at
 }
@@ -91,12 +89,10 @@ fn write_chosen(
     ensures rows { Holds (rows_chosen search stand) buffer.old buffer.new }
     ensures memo { Kept search memo.new }
 {
-    let clocks = search.clocks;
-    if stand.depth != 1 + (clocks.count as usize) {
+    if stand.depth != 1 + search.clocks.count as usize {
         return 0;
     }
-    let part = stand.part;
-    write_ranked(buffer, memo, rankings, search, part)
+    write_ranked(buffer, memo, rankings, search, stand.part)
 }
 
 // Writes the rows of all regions on a way, ascending, each from the next free byte on; tells in how many bytes.

@@ -20,7 +20,7 @@ fn permitted_intervals(asked: Move) -> usize
     while interval <= asked.top {
         let end = asked.next_stretch(interval);
         if asked.permits(interval) {
-            total += (end - interval) as usize;
+            total += usize::from(end - interval);
         }
         interval = end;
     }
@@ -33,17 +33,12 @@ pub fn is_wide(s: Search, rows: usize) -> bool
     requires ready { Ready s }
     requires rows_bound { rows ≤ 4096 }
 {
-    let n = s.clocks.count as usize;
-    let moves = s.moves;
     let mut choices = 1;
-    let mut z = 0;
-    while z < n {
-        let asked = moves.each[z];
-        choices = choices * permitted_intervals(asked);
+    for asked in &s.moves.each[..s.clocks.count as usize] {
+        choices *= permitted_intervals(*asked);
         if rows < 4 * choices {
             return true;
         }
-        z += 1;
     }
     false
 }
@@ -56,14 +51,7 @@ pub fn allowed_rows(list: &[u8], s: Search, start: usize, end: usize) -> usize
     ensures { result ≡ passing (allowsb s) (listed_row s.clocks.count list.now) start (end - start) }
 {
     let n = s.clocks.count as usize;
-    let mut total = 0;
-    let mut i = start;
-    while i < end {
-        let row = row_at(list, n, i);
-        if s.allows(row) {
-            total += 1;
-        }
-        i += 1;
-    }
-    total
+    (start..end)
+        .filter(|i| s.allows(row_at(list, n, *i)))
+        .count()
 }

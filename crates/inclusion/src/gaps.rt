@@ -26,14 +26,9 @@ fn first_from(list: &[u8], n: usize, k: usize, end: usize, wanted: Region) -> us
     requires k_le_end { (k ≤ end) × (end ≤ 4096) }
     ensures { result ≤ end }
 {
-    let mut i = k;
-    while i < end {
-        if !row_is_below(list, n, i, wanted) {
-            return i;
-        }
-        i += 1;
-    }
-    end
+    (k..end)
+        .find(|i| !row_is_below(list, n, *i, wanted))
+        .unwrap_or(end)
 }
 
 // Where a row of the part's intervals would stand, if there is none: row `at`, which is the first that is not below the part; else past the end.
@@ -43,12 +38,11 @@ fn part_gap(list: &[u8], n: usize, at: usize, end: usize, part: Region) -> usize
     requires at_le_end { (at ≤ end) × (end ≤ 4096) }
     ensures { result ≤ 4097 }
 {
-    if at < end {
-        if row_is_beside(list, n, at, part) {
-            return end + 1;
-        }
+    if at < end && row_is_beside(list, n, at, part) {
+        end + 1
+    } else {
+        at
     }
-    at
 }
 
 // Where a row would stand of the first intervals that a walk over intervals alone chooses and that no row of the target has; or past the end. Both ascend,
@@ -66,8 +60,10 @@ fn interval_gap(list: &[u8], search: Search, start: Stand, into: Span) -> usize
     let mut k = into.start;
     while 0 < stand.depth {
         if stand.depth == 1 + n {
-            let mut part = stand.part;
-            part.ranks = [0; 4];
+            let part = Region {
+                ranks: [0; 4],
+                ..stand.part
+            };
             k = first_from(list, n, k, end, part);
             let gap = part_gap(list, n, k, end, part);
             if gap <= end {
@@ -103,6 +99,7 @@ pub fn first_gap(
     if gap <= into.end {
         return gap;
     }
-    let seen = all_inside(list, count, way.search, start_in(way.target), 2 * count);
-    seen.at
+    match all_inside(list, count, way.search, start_in(way.target), 2 * count) {
+        Ok(at) | Err(at) => at,
+    }
 }

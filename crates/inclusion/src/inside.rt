@@ -1,6 +1,6 @@
 // Whether a region list has all regions that an edge leads to from one of its regions: a walk over their intervals that stops at the first
 // that is not listed. They are met ascending, so each is looked up from where the one before it was.
-ghost use Rattle.std.specs.Prelude.{◌≡◌, true, not, ◌||◌};
+ghost use Rattle.std.specs.Prelude.{◌≡◌, true, not, ◌||◌, is_ok};
 ghost use Rattle.automata.specs.Row.{IsRow};
 ghost use Rattle.automata.specs.Edge.{Bounded};
 ghost use Rattle.automata.specs.Closed.{Ascends};
@@ -22,7 +22,7 @@ use crate::counted::{allowed_rows, is_wide};
 use edge_walk::choice::Search;
 use edge_walk::stand::{Stand, start_in};
 use edge_walk::way::open_way;
-use listed_rows::listed::{Found, Span, find};
+use listed_rows::listed::{Span, find};
 use listed_rows::ranked::has_all_ranked;
 use ranked_ways::ranked_way::{is_allowed, parted_pattern};
 use rankings::ranking::{all_rankings, first_ranking, ranked_from, rankings_of};
@@ -38,16 +38,13 @@ fn find_if(
     region: Region,
     hint: usize,
     wanted: bool,
-) -> Found
+) -> Result<usize, usize>
     requires listed { Listed clocks list.now count }
     requires ascends { Ascends (listed_rows clocks.count list.now count) }
-    ensures { result.listed ≡ (not wanted || has (listed_rows clocks.count list.now count) (row_of clocks.count region)) }
+    ensures { is_ok result ≡ (not wanted || has (listed_rows clocks.count list.now count) (row_of clocks.count region)) }
 {
     if !wanted {
-        return Found {
-            listed: true,
-            at: hint,
-        };
+        return Ok(hint);
     }
     find(list, clocks, count, region, hint)
 }
@@ -61,7 +58,7 @@ fn ranked_inside(
     search: Search,
     part: Region,
     hint: usize,
-) -> Found
+) -> Result<usize, usize>
     requires listed_2 { Listed search.clocks list.now count }
     requires ascends { Ascends (listed_rows search.clocks.count list.now count) }
     requires rankings_value { rankings.now ≡ table }
@@ -69,7 +66,7 @@ fn ranked_inside(
     requires in_range { InRange search.clocks part }
     requires permitted { Permitted search part }
     requires kept { Kept search memo.old }
-    ensures listed { result.listed ≡ every (has (listed_rows search.clocks.count list.now count)) (rows_allowed search part) }
+    ensures listed { is_ok result ≡ every (has (listed_rows search.clocks.count list.now count)) (rows_allowed search part) }
     ensures memo { Kept search memo.new }
 {
     let clocks = search.clocks;
@@ -77,23 +74,13 @@ fn ranked_inside(
     let n = clocks.count as usize;
     let parts = parted_pattern(moves, part, n);
     let first = first_ranking(clocks, part);
-    let all = rankings_of(clocks, part);
     let mut last = hint;
-    let mut j = 0;
-    while j < all {
+    for j in 0..rankings_of(clocks, part) {
         let region = ranked_from(rankings, clocks, part, first, j);
         let wanted = is_allowed(memo, parts * 150 + (first + j), parts, moves, region, n);
-        let found = find_if(list, clocks, count, region, last, wanted);
-        if !found.listed {
-            return found;
-        }
-        last = found.at;
-        j += 1;
+        last = find_if(list, clocks, count, region, last, wanted)?;
     }
-    Found {
-        listed: true,
-        at: last,
-    }
+    Ok(last)
 }
 
 // Whether all those are in the list where a walk over the intervals has chosen all of them; elsewhere nothing is missing. The list may have every region
@@ -106,56 +93,51 @@ fn look(
     search: Search,
     stand: Stand,
     hint: usize,
-) -> Found
+) -> Result<usize, usize>
     requires listed_2 { Listed search.clocks list.now count }
     requires ascends { Ascends (listed_rows search.clocks.count list.now count) }
     requires rankings_value { rankings.now ≡ table }
     requires ready { Ready search }
     requires chosen { Chosen search stand }
     requires kept { Kept search memo.old }
-    ensures listed { result.listed ≡ every (has (listed_rows search.clocks.count list.now count)) (rows_chosen search stand) }
+    ensures listed { is_ok result ≡ every (has (listed_rows search.clocks.count list.now count)) (rows_chosen search stand) }
     ensures memo { Kept search memo.new }
 {
     let clocks = search.clocks;
     if stand.depth != 1 + (clocks.count as usize) {
-        return Found {
-            listed: true,
-            at: hint,
-        };
+        return Ok(hint);
     }
     let part = stand.part;
-    let ranked = has_all_ranked(list, clocks, count, part, hint);
-    if ranked.listed {
-        return ranked;
+    match has_all_ranked(list, clocks, count, part, hint) {
+        Ok(end) => Ok(end),
+        Err(first) => ranked_inside(list, memo, rankings, count, search, part, first),
     }
-    ranked_inside(list, memo, rankings, count, search, part, ranked.at)
 }
 
 // Whether every region that is ahead of a walk which stands there is in the list.
-pub fn all_inside(list: &[u8], count: usize, search: Search, start: Stand, hint: usize) -> Found
+pub fn all_inside(
+    list: &[u8],
+    count: usize,
+    search: Search,
+    start: Stand,
+    hint: usize,
+) -> Result<usize, usize>
     requires listed { Listed search.clocks list.now count }
     requires ascends { Ascends (listed_rows search.clocks.count list.now count) }
     requires ready { Ready search }
     requires standing { Standing search start }
     requires chosen { Chosen search start }
-    ensures { AllPass (Ahead search start) (has (listed_rows search.clocks.count list.now count)) result.listed }
+    ensures { AllPass (Ahead search start) (has (listed_rows search.clocks.count list.now count)) (is_ok result) }
 {
     let rankings = all_rankings();
     let mut memo = [0u8; 2400];
     let mut stand = start;
     let mut last = hint;
     while 0 < stand.depth {
-        let seen = look(list, &mut memo, &rankings, count, search, stand, last);
-        if !seen.listed {
-            return seen;
-        }
-        last = seen.at;
+        last = look(list, &mut memo, &rankings, count, search, stand, last)?;
         stand = search.step_intervals(stand);
     }
-    Found {
-        listed: true,
-        at: last,
-    }
+    Ok(last)
 }
 
 // Whether every region that an edge leads to from this one, where its guards hold, is in the list. Where there may be many of them they are counted, and
@@ -168,7 +150,7 @@ pub fn leads_inside(
     from: Region,
     into: Span,
     hint: usize,
-) -> Found
+) -> Result<usize, usize>
     requires listed { Listed clocks list.now count }
     requires ascends { Ascends (listed_rows clocks.count list.now count) }
     requires bounded { Bounded (bounds_of clocks) (edge_of clocks.count e) }
@@ -176,21 +158,19 @@ pub fn leads_inside(
     requires location_value { from.location ≡ e.source }
     requires e_value { guardsb (row_of clocks.count from) (edge_of clocks.count e).guards ≡ true }
     requires rows_in { RowsIn clocks.count list.now count e.target into.start into.end }
-    ensures { result.listed ≡ every (has (listed_rows clocks.count list.now count)) (edge_rows (bounds_of clocks) (edge_of clocks.count e) (row_of clocks.count from)) }
+    ensures { is_ok result ≡ every (has (listed_rows clocks.count list.now count)) (edge_rows (bounds_of clocks) (edge_of clocks.count e) (row_of clocks.count from)) }
 {
     let way = open_way(clocks, from, e);
     if !way.leads {
-        return Found {
-            listed: true,
-            at: hint,
-        };
+        return Ok(hint);
     }
     let search = way.search;
     if is_wide(search, into.end - into.start) {
         let met = allowed_rows(list, search, into.start, into.end);
-        return Found {
-            listed: met == way_count(way),
-            at: hint,
+        return if met == way_count(way) {
+            Ok(hint)
+        } else {
+            Err(hint)
         };
     }
     all_inside(list, count, search, start_in(way.target), hint)

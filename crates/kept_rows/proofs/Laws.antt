@@ -2,6 +2,5 @@
 pub mod Finished
 pub mod Inserted
 pub mod Inserting
-pub mod Moved
 pub mod Parts
 pub mod RowBytes

@@ -1,4 +1,3 @@
 -- The rows of a list in the making.
 pub mod Births
 pub mod Inserted
-pub mod Moved

@@ -22,6 +22,5 @@ pub fn write_two(out: &mut [u8], at: usize, number: usize)
     requires number_bound { number < 65536 }
     ensures { out.new ≡ take at out.old ++ (two_bytes number ++ drop (at + 2) out.old) }
 {
-    out[at] = (number / 256) as u8;
-    out[at + 1] = (number % 256) as u8;
+    out[at..at + 2].copy_from_slice(&(number as u16).to_be_bytes());
 }

@@ -12,9 +12,7 @@ fn write_header(out: &mut [u8], count: usize)
     requires { (4 ≤ length out.old) × (count ≤ 4096) }
     ensures { out.new ≡ (RL ++ two_bytes count) ++ drop 4 out.old }
 {
-    let mark = *b"RL";
-    out[0] = mark[0];
-    out[1] = mark[1];
+    out[..2].copy_from_slice(b"RL");
     write_two(out, 2, count);
 }
 
@@ -25,14 +23,10 @@ fn write_marks(out: &mut [u8], n: usize, count: usize)
     requires n_in_bounds { 4 + count * row_width n ≤ length out.old }
     ensures { out.new ≡ (take 4 out.old ++ rows_bytes (listed_rows n out.old count)) ++ drop (4 + count * row_width n) out.old }
 {
-    let mark = *b"RW";
     let size = row_width(n);
-    let mut i = 0;
-    while i < count {
+    for i in 0..count {
         let at = 4 + i * size;
-        out[at] = mark[0];
-        out[at + 1] = mark[1];
-        i += 1;
+        out[at..at + 2].copy_from_slice(b"RW");
     }
 }
 
@@ -51,9 +45,5 @@ pub fn finish(out: &mut [u8], n: usize, count: usize)
 pub fn clear(out: &mut [u8])
     ensures { out.new ≡ replicate (length out.old) 0 }
 {
-    let mut j = 0;
-    while j < out.len() {
-        out[j] = 0;
-        j += 1;
-    }
+    out.fill(0);
 }

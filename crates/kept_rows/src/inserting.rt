@@ -5,24 +5,11 @@ ghost use Rattle.regions.specs.Values.{bounds_of, row_of};
 ghost use Rattle.calls.specs.RegionFile.{row_width};
 ghost use Rattle.listed_rows.specs.Listed.{Listed};
 ghost use Rattle.kept_rows.specs.Inserted.{Inserted};
-ghost use Rattle.kept_rows.specs.Moved.{moved};
 
 use crate::births::write_two;
 use regions::region::{Clocks, Region};
 use rows::row::row_width;
 use rows::row_writer::write_row;
-
-// Moves the bytes from start to before end up by a distance, from the last one down, so that none is overwritten before it is moved.
-fn shift(out: &mut [u8], start: usize, end: usize, distance: usize)
-    requires { (start ≤ end) × (end + distance ≤ length out.old) }
-    ensures { out.new ≡ moved start end distance out.old }
-{
-    let mut j = end;
-    while start < j {
-        j -= 1;
-        out[j + distance] = out[j];
-    }
-}
 
 // Puts the row of a region among so many rows, after the first `at` of them. The later ones move up, and its birth is the count of rows that were there.
 pub fn insert(out: &mut [u8], clocks: Clocks, count: usize, at: usize, region: Region)
@@ -35,7 +22,7 @@ pub fn insert(out: &mut [u8], clocks: Clocks, count: usize, at: usize, region: R
     let n = clocks.count as usize;
     let size = row_width(n);
     let start = 4 + at * size;
-    shift(out, start, 4 + count * size, size);
+    out.copy_within(start..4 + count * size, start + size);
     write_row(&mut out[start..], n, region);
     write_two(out, start, count);
 }

@@ -3,3 +3,4 @@ pub mod Listed
 pub mod ListedNumbers
 pub mod Located
 pub mod Ranked
+pub mod Firsts

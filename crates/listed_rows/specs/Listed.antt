@@ -1,4 +1,6 @@
 -- The rows in the bytes of a region list, for the code that reads them again and looks rows up. Assumes nothing.
+use Rattle.std.specs.declared.result.Result.{Result}
+use Rattle.std.specs.declared.result.Result.TheVariants.{Ok, Err}
 use Rattle.std.specs.Prelude.{ℕ, ◌+◌, ◌*◌, ◌≤◌, ◌<◌, ◌≡◌, true, false, List, map, length, take, drop}
 use Rattle.automata.specs.Clocks.{at}
 use Rattle.automata.specs.Row.{Row, IsRow}
@@ -38,3 +40,8 @@ pub record Splits (row : ℕ → Row) (count : ℕ) (w : Row) (m : ℕ) : Type 0
   pub within : m ≤ count
   pub below : (i : ℕ) → i < m → belowb (row i) w ≡ true
   pub others : (i : ℕ) → m ≤ i → i < count → belowb (row i) w ≡ false
+
+-- where a region stands, or else where it would stand
+abbrev pub place_of : Result ℕ ℕ → ℕ
+place_of (Ok m) = m
+place_of (Err m) = m

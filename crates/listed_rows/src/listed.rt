@@ -1,10 +1,10 @@
 // The rows of a region list whose records were read: each is read again from its bytes, by value, as often as it is wanted.
-ghost use Rattle.std.specs.Prelude.{◌≡◌, ◌≤◌, ◌<◌};
+ghost use Rattle.std.specs.Prelude.{◌≡◌, ◌+◌, ◌*◌, ◌≤◌, ◌<◌, length, is_ok};
 ghost use Rattle.regions.specs.Order.{numbers, shared};
 ghost use Rattle.automata.specs.Closed.{Ascends};
 ghost use Rattle.automata.specs.Checks.{belowb, has};
 ghost use Rattle.regions.specs.Values.{row_of, region_of};
-ghost use Rattle.listed_rows.specs.Listed.{listed_bytes, HasRow, listed_row, listed_rows, Listed, Splits};
+ghost use Rattle.listed_rows.specs.Listed.{listed_bytes, HasRow, listed_row, listed_rows, Listed, Splits, place_of};
 ghost use Rattle.listed_rows.specs.Ranked.{besideb};
 
 use regions::region::{Clocks, Region};
@@ -14,7 +14,8 @@ use rows::row::{region_in, row_width, wide};
 fn row_bytes(list: &[u8], n: usize, i: usize) -> &[u8]
     requires n_bound { n ≤ 4 }
     requires has_row { HasRow n list.now i }
-    ensures { result.now ≡ listed_bytes n list.now i }
+    ensures bytes { result.now ≡ listed_bytes n list.now i }
+    ensures all { length result.now ≡ 3 + 2 * n }
 {
     let size = row_width(n);
     let at = 4 + i * size;
@@ -36,8 +37,7 @@ pub fn location_at(list: &[u8], n: usize, i: usize) -> u8
     requires has_row { HasRow n list.now i }
     ensures { result ≡ (listed_row n list.now i).location }
 {
-    let bytes = row_bytes(list, n, i);
-    bytes[2]
+    row_bytes(list, n, i)[2]
 }
 
 // How many numbers of row i and of a region are the same before they differ. A row's numbers stand in its bytes, after the mark, in the order
@@ -49,14 +49,9 @@ fn shared_with(list: &[u8], n: usize, i: usize, wanted: Region) -> usize
 {
     let bytes = row_bytes(list, n, i);
     let all = 1 + 2 * n;
-    let mut j = 0;
-    while j < all {
-        if wide(bytes[2 + j]) != wanted.number(n, j) {
-            return j;
-        }
-        j += 1;
-    }
-    all
+    (0..all)
+        .find(|&j| wide(bytes[2 + j]) != wanted.number(n, j))
+        .unwrap_or(all)
 }
 
 // Whether row i comes before a region, where it is known how many of their numbers are the same.
@@ -66,11 +61,7 @@ fn comes_below(list: &[u8], n: usize, i: usize, wanted: Region, same: usize) -> 
     requires same_value { same ≡ shared (numbers (listed_row n list.now i)) (numbers (row_of n wanted)) }
     ensures { result ≡ belowb (listed_row n list.now i) (row_of n wanted) }
 {
-    if 1 + 2 * n <= same {
-        return false;
-    }
-    let bytes = row_bytes(list, n, i);
-    wide(bytes[2 + same]) < wanted.number(n, same)
+    same < 1 + 2 * n && wide(row_bytes(list, n, i)[2 + same]) < wanted.number(n, same)
 }
 
 // Whether row i comes before a region.
@@ -115,26 +106,6 @@ fn guess(low: usize, high: usize, hint: usize) -> usize
     low + (high - low) / 2
 }
 
-// How many of the ascending rows are below a region, looked for from a hint on.
-pub fn rows_below(list: &[u8], clocks: Clocks, count: usize, wanted: Region, hint: usize) -> usize
-    requires listed { Listed clocks list.now count }
-    requires ascends { Ascends (listed_rows clocks.count list.now count) }
-    ensures { Splits (listed_row clocks.count list.now) count (row_of clocks.count wanted) result }
-{
-    let n = clocks.count as usize;
-    let mut low = 0;
-    let mut high = count;
-    while low < high {
-        let middle = guess(low, high, hint);
-        if row_is_below(list, n, middle, wanted) {
-            low = middle + 1;
-        } else {
-            high = middle;
-        }
-    }
-    low
-}
-
 // The rows from start to before end.
 #[derive(Clone, Copy)]
 pub struct Span {
@@ -142,18 +113,18 @@ pub struct Span {
     pub end: usize,
 }
 
-// Whether a region was found among the rows, and where it stands or would stand.
-#[derive(Clone, Copy)]
-pub struct Found {
-    pub listed: bool,
-    pub at: usize,
-}
-
-// Whether a region is among the ascending rows, looked for from a hint on: the search ends where it is met.
-pub fn find(list: &[u8], clocks: Clocks, count: usize, wanted: Region, hint: usize) -> Found
+// Where a region stands among the ascending rows, or else where it would stand, so that as many of them are below it: the search ends where it is met.
+fn look_up(
+    list: &[u8],
+    clocks: Clocks,
+    count: usize,
+    wanted: Region,
+    hint: usize,
+) -> Result<usize, usize>
     requires listed { Listed clocks list.now count }
     requires ascends { Ascends (listed_rows clocks.count list.now count) }
-    ensures { result.listed ≡ has (listed_rows clocks.count list.now count) (row_of clocks.count wanted) }
+    ensures listed { is_ok result ≡ has (listed_rows clocks.count list.now count) (row_of clocks.count wanted) }
+    ensures splits { Splits (listed_row clocks.count list.now) count (row_of clocks.count wanted) (place_of result) }
 {
     let n = clocks.count as usize;
     let mut low = 0;
@@ -162,10 +133,7 @@ pub fn find(list: &[u8], clocks: Clocks, count: usize, wanted: Region, hint: usi
         let middle = guess(low, high, hint);
         let same = shared_with(list, n, middle, wanted);
         if same == 1 + 2 * n {
-            return Found {
-                listed: true,
-                at: middle,
-            };
+            return Ok(middle);
         }
         if comes_below(list, n, middle, wanted, same) {
             low = middle + 1;
@@ -173,9 +141,32 @@ pub fn find(list: &[u8], clocks: Clocks, count: usize, wanted: Region, hint: usi
             high = middle;
         }
     }
-    Found {
-        listed: false,
-        at: low,
+    Err(low)
+}
+
+// Where a region stands among the ascending rows, or else where it would stand, looked for from a hint on.
+pub fn find(
+    list: &[u8],
+    clocks: Clocks,
+    count: usize,
+    wanted: Region,
+    hint: usize,
+) -> Result<usize, usize>
+    requires listed { Listed clocks list.now count }
+    requires ascends { Ascends (listed_rows clocks.count list.now count) }
+    ensures { is_ok result ≡ has (listed_rows clocks.count list.now count) (row_of clocks.count wanted) }
+{
+    look_up(list, clocks, count, wanted, hint)
+}
+
+// How many of the ascending rows are below a region, looked for from a hint on.
+pub fn rows_below(list: &[u8], clocks: Clocks, count: usize, wanted: Region, hint: usize) -> usize
+    requires listed { Listed clocks list.now count }
+    requires ascends { Ascends (listed_rows clocks.count list.now count) }
+    ensures { Splits (listed_row clocks.count list.now) count (row_of clocks.count wanted) result }
+{
+    match look_up(list, clocks, count, wanted, hint) {
+        Ok(at) | Err(at) => at,
     }
 }
 
@@ -185,6 +176,5 @@ pub fn is_listed(list: &[u8], clocks: Clocks, count: usize, wanted: Region) -> b
     requires ascends { Ascends (listed_rows clocks.count list.now count) }
     ensures { result ≡ has (listed_rows clocks.count list.now count) (row_of clocks.count wanted) }
 {
-    let found = find(list, clocks, count, wanted, 0);
-    found.listed
+    find(list, clocks, count, wanted, 0).is_ok()
 }

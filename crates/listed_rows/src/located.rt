@@ -15,7 +15,7 @@ fn rows_before(list: &[u8], clocks: Clocks, count: usize, location: u8) -> usize
     ensures { Starts clocks.count list.now count location result }
 {
     let least = Region {
-        location: location,
+        location,
         intervals: [0; 4],
         ranks: [0; 4],
     };
@@ -29,14 +29,9 @@ fn rows_end(list: &[u8], n: usize, count: usize, start: usize, location: u8) -> 
     requires start_le_count { (start ≤ count) × (count ≤ 4096) }
     ensures { Together n list.now count start location result }
 {
-    let mut i = start;
-    while i < count {
-        if location_at(list, n, i) != location {
-            return i;
-        }
-        i += 1;
-    }
-    i
+    (start..count)
+        .find(|&i| location_at(list, n, i) != location)
+        .unwrap_or(count)
 }
 
 // Where the rows of a location stand: they ascend, so they stand together.
@@ -47,7 +42,7 @@ pub fn rows_in(list: &[u8], clocks: Clocks, count: usize, location: u8) -> Span
 {
     let start = rows_before(list, clocks, count, location);
     Span {
-        start: start,
+        start,
         end: rows_end(list, clocks.count as usize, count, start, location),
     }
 }

@@ -27,11 +27,9 @@ fn make(table: &[u8], list: &mut [u8; 45060], line: &mut [u8; 32]) -> Made
     ensures prints { (t : List ℕ) → table.now ≡ take 65536 t → take result.line line.new ≡ made_bytes t }
 {
     let answer = make_here(table, list);
-    let length = made_length(table, answer);
-    let end = write_made(line, answer);
     Made {
-        list: length,
-        line: end,
+        list: made_length(table, answer),
+        line: write_made(line, answer),
     }
 }
 

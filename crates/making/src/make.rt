@@ -30,11 +30,7 @@ fn zeros() -> Region
 pub fn wipe(rows: &mut [Region], zero: Region)
     ensures { rows.new ≡ replicate (length rows.old) zero }
 {
-    let mut i = 0;
-    while i < rows.len() {
-        rows[i] = zero;
-        i += 1;
-    }
+    rows.fill(zero);
 }
 
 // Makes the list. Accepted: what the buffer begins with is the file of a closed list of so many rows, which the check of region lists accepts, and no run
@@ -49,11 +45,8 @@ pub fn make_list(table: &[u8], buffer: &mut [u8], waiting: &mut [Region]) -> Ans
 {
     let mut s = begin(table, buffer, waiting.len());
     while s.going {
-        let place = s.place;
-        waiting[place] = s.row;
-        let take = s.take;
-        let r = waiting[take];
-        s = turn(table, buffer, r, s);
+        waiting[s.place] = s.row;
+        s = turn(table, buffer, waiting[s.take], s);
     }
     wipe(waiting, zeros());
     finish(s)
@@ -64,7 +57,6 @@ pub fn make_here(table: &[u8], buffer: &mut [u8]) -> Answer
     ensures answer { answer_of result ≡ make_answer table.now (length buffer.old) 4096 }
     ensures buffer { buffer.new ≡ make_buffer table.now 4096 buffer.old }
 {
-    let zero = zeros();
-    let mut rows = [zero; 4096];
+    let mut rows = [zeros(); 4096];
     make_list(table, buffer, &mut rows)
 }

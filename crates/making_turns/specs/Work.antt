@@ -139,150 +139,31 @@ starting head x = record {
 
 -- a look for a new row has come so far
 abbrev pub went : work_code.Work → stride_code.Stride → work_code.Work
-went s q = record {
-  going = s.going;
-  place = s.place;
-  row = s.row;
-  take = s.take;
-  head = s.head;
-  count = s.count;
-  start = s.start;
-  top = s.top;
-  walking = s.walking;
-  step = q.step;
-  here = q.here;
-  «from» = q.from;
-  floor = q.next;
-  entered = q.entered;
-  number = s.number;
-  at = s.at;
-}
+went s q = record s { step = q.step; here = q.here; «from» = q.from; floor = q.next; entered = q.entered }
 
 -- the next row is followed
 abbrev pub next_row : work_code.Work → work_code.Work
-next_row s = record {
-  going = s.going;
-  place = s.place;
-  row = s.row;
-  take = s.top + 1;
-  head = s.head;
-  count = s.count;
-  start = s.start;
-  top = s.top + 1;
-  walking = s.walking;
-  step = 0;
-  here = s.here;
-  «from» = s.from;
-  floor = s.floor;
-  entered = s.entered;
-  number = s.number;
-  at = s.at;
-}
+next_row s = record s { take = s.top + 1; top = s.top + 1; step = 0 }
 
 -- the rows that were followed are walked, from the edge on whose record begins here
 abbrev pub to_walks : work_code.Work → ℕ → work_code.Work
-to_walks s first = record {
-  going = s.going;
-  place = s.place;
-  row = s.row;
-  take = s.take;
-  head = s.head;
-  count = s.count;
-  start = s.start;
-  top = s.top + 1;
-  walking = true;
-  step = 1;
-  here = first;
-  «from» = s.from;
-  floor = s.floor;
-  entered = s.entered;
-  number = s.number;
-  at = s.at;
-}
+to_walks s first = record s { top = s.top + 1; walking = true; step = 1; here = first }
 
 -- those that were found since are followed
 abbrev pub to_rows : work_code.Work → work_code.Work
-to_rows s = record {
-  going = s.going;
-  place = s.place;
-  row = s.row;
-  take = s.top;
-  head = s.head;
-  count = s.count;
-  start = s.top;
-  top = s.top;
-  walking = false;
-  step = 0;
-  here = s.here;
-  «from» = s.from;
-  floor = s.floor;
-  entered = s.entered;
-  number = s.number;
-  at = s.at;
-}
+to_rows s = record s { take = s.top; start = s.top; walking = false; step = 0 }
 
 -- a row is added, which the next turn stores
 abbrev pub adding : work_code.Work → Region → work_code.Work
-adding s x = record {
-  going = s.going;
-  place = s.count;
-  row = x;
-  take = s.take;
-  head = s.head;
-  count = s.count + 1;
-  start = s.start;
-  top = s.top;
-  walking = s.walking;
-  step = s.step;
-  here = s.here;
-  «from» = s.from;
-  floor = s.floor;
-  entered = s.entered;
-  number = s.number;
-  at = s.at;
-}
+adding s x = record s { place = s.count; row = x; count = s.count + 1 }
 
 -- work ends with a refusal
 abbrev pub refusing : work_code.Work → ℕ → ℕ → work_code.Work
-refusing s number place = record {
-  going = false;
-  place = s.place;
-  row = s.row;
-  take = s.take;
-  head = s.head;
-  count = s.count;
-  start = s.start;
-  top = s.top;
-  walking = s.walking;
-  step = s.step;
-  here = s.here;
-  «from» = s.from;
-  floor = s.floor;
-  entered = s.entered;
-  number = number;
-  at = place;
-}
+refusing s number place = record s { going = false; number = number; at = place }
 
 -- work ends with a list
 abbrev pub ending : work_code.Work → work_code.Work
-ending s = record {
-  going = false;
-  place = s.place;
-  row = s.row;
-  take = s.take;
-  head = s.head;
-  count = s.count;
-  start = s.start;
-  top = s.top;
-  walking = s.walking;
-  step = s.step;
-  here = s.here;
-  «from» = s.from;
-  floor = s.floor;
-  entered = s.entered;
-  number = s.number;
-  at = s.at;
-}
+ending s = record s { going = false }
 
 -- new rows ----------------------------------------------------------------------------------------------------------------------------
 

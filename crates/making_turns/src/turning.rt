@@ -27,10 +27,7 @@ fn has_room(n: usize, count: usize, room: usize) -> bool
     ensures yes { result ≡ true → (count < 4096) × (4 + suc count * row_width n ≤ room) }
     ensures no { result ≡ false → (4096 < suc count) ⊎ (room < 4 + suc count * row_width n) }
 {
-    if 4096 <= count {
-        return false;
-    }
-    4 + (count + 1) * row_width(n) <= room
+    count < 4096 && 4 + (count + 1) * row_width(n) <= room
 }
 
 // Adds a new row to the list, or ends with 20 where there is no room for it.
@@ -40,8 +37,7 @@ fn add(out: &mut [u8], s: Work, row: Region) -> Work
     ensures falls { left result < left s }
 {
     let clocks = s.head.clocks;
-    let n = clocks.count as usize;
-    if !has_room(n, s.count, out.len()) {
+    if !has_room(clocks.count as usize, s.count, out.len()) {
         clear(out);
         return s.refusing(20, 0);
     }
@@ -74,8 +70,7 @@ fn conclude(out: &mut [u8], s: Work) -> Work
         clear(out);
         return s.refusing(21, 0);
     }
-    let clocks = s.head.clocks;
-    finish_list(out, clocks.count as usize, s.count);
+    finish_list(out, s.head.clocks.count as usize, s.count);
     s.ending()
 }
 
@@ -100,10 +95,9 @@ fn follow_turn(table: &[u8], out: &mut [u8], r: Region, s: Work) -> Work
     ensures falls { left result < left s }
 {
     let q = follow_row(table, s.head, out, s.count, r, s.step, s.here, s.entered);
-    let next = q.next;
     let w = s.went(q);
-    if next.found {
-        return add(out, w, next.region);
+    if q.next.found {
+        return add(out, w, q.next.region);
     }
     follow_next(w)
 }
@@ -118,10 +112,9 @@ fn walk_turn(table: &[u8], out: &mut [u8], s: Work) -> Work
     let q = walk_edges(
         table, s.head, out, s.count, s.start, s.step, s.here, s.entered, s.from, s.floor,
     );
-    let next = q.next;
     let w = s.went(q);
-    if next.found {
-        return add(out, w, next.region);
+    if q.next.found {
+        return add(out, w, q.next.region);
     }
     walk_next(out, w)
 }
@@ -143,8 +136,6 @@ fn begin_rows(table: &[u8], out: &mut [u8], head: Head) -> Work
     requires { Describes table.now head }
     ensures { (records : ℕ) (ws : List Region) → 4096 ≤ records → length ws ≡ records → Loops table.now out.old records out.new ws result }
 {
-    let clocks = head.clocks;
-    let n = clocks.count as usize;
     let first = initial_row(head);
     let none = starting(head, first);
     if out.len() < 4 {
@@ -155,11 +146,11 @@ fn begin_rows(table: &[u8], out: &mut [u8], head: Head) -> Work
         clear(out);
         return none.refusing(21, 0);
     }
-    if out.len() < 4 + row_width(n) {
+    if out.len() < 4 + row_width(head.clocks.count as usize) {
         clear(out);
         return none.refusing(20, 0);
     }
-    insert(out, clocks, 0, 0, first);
+    insert(out, head.clocks, 0, 0, first);
     none
 }
 
@@ -171,13 +162,11 @@ pub fn begin(table: &[u8], out: &mut [u8], records: usize) -> Work
     let head = opened.head;
     if opened.number != 0 {
         clear(out);
-        let none = starting(head, initial_row(head));
-        return none.refusing(opened.number, opened.place);
+        return starting(head, initial_row(head)).refusing(opened.number, opened.place);
     }
     if records < 4096 {
         clear(out);
-        let none = starting(head, initial_row(head));
-        return none.refusing(20, 0);
+        return starting(head, initial_row(head)).refusing(20, 0);
     }
     begin_rows(table, out, head)
 }

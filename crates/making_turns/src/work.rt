@@ -44,7 +44,7 @@ pub fn starting(head: Head, first: Region) -> Work
         place: 0,
         row: first,
         take: 0,
-        head: head,
+        head,
         count: 1,
         start: 0,
         top: 0,
@@ -64,27 +64,13 @@ impl Work {
     pub fn went(self, q: Stride) -> Work
         ensures { result ≡ went self q }
     {
-        let row = self.row;
-        let head = self.head;
-        let from = q.from;
-        let next = q.next;
         Work {
-            going: self.going,
-            place: self.place,
-            row: row,
-            take: self.take,
-            head: head,
-            count: self.count,
-            start: self.start,
-            top: self.top,
-            walking: self.walking,
             step: q.step,
             here: q.here,
-            from: from,
-            floor: next,
+            from: q.from,
+            floor: q.next,
             entered: q.entered,
-            number: self.number,
-            at: self.at,
+            ..self
         }
     }
 
@@ -93,11 +79,12 @@ impl Work {
         requires { self.top < 4096 }
         ensures { result ≡ next_row self }
     {
-        let mut s = self;
-        s.take = self.top + 1;
-        s.top = self.top + 1;
-        s.step = 0;
-        s
+        Work {
+            take: self.top + 1,
+            top: self.top + 1,
+            step: 0,
+            ..self
+        }
     }
 
     // The rows that were followed are walked, from the first edge on.
@@ -105,24 +92,26 @@ impl Work {
         requires { self.top < 4096 }
         ensures { result ≡ to_walks self (7 + self.head.clocks.count + 3 * self.head.locations) }
     {
-        let mut s = self;
-        s.top = self.top + 1;
-        s.walking = true;
-        s.step = 1;
-        s.here = first_edge(s.head);
-        s
+        Work {
+            top: self.top + 1,
+            walking: true,
+            step: 1,
+            here: first_edge(self.head),
+            ..self
+        }
     }
 
     // The rows that were found since are followed.
     pub fn to_rows(self) -> Work
         ensures { result ≡ to_rows self }
     {
-        let mut s = self;
-        s.take = self.top;
-        s.start = self.top;
-        s.walking = false;
-        s.step = 0;
-        s
+        Work {
+            take: self.top,
+            start: self.top,
+            walking: false,
+            step: 0,
+            ..self
+        }
     }
 
     // A row is added, which the next turn stores.
@@ -130,31 +119,34 @@ impl Work {
         requires { self.count < 4096 }
         ensures { result ≡ adding self row }
     {
-        let mut s = self;
-        s.place = self.count;
-        s.row = row;
-        s.count = self.count + 1;
-        s
+        Work {
+            place: self.count,
+            row,
+            count: self.count + 1,
+            ..self
+        }
     }
 
     // It ends with a list.
     pub fn ending(self) -> Work
         ensures { result ≡ ending self }
     {
-        let mut s = self;
-        s.going = false;
-        s
+        Work {
+            going: false,
+            ..self
+        }
     }
 
     // It ends with a refusal.
     pub fn refusing(self, number: u8, at: u16) -> Work
         ensures { result ≡ refusing self number at }
     {
-        let mut s = self;
-        s.going = false;
-        s.number = number;
-        s.at = at;
-        s
+        Work {
+            going: false,
+            number,
+            at,
+            ..self
+        }
     }
 
     // The answer at the end.

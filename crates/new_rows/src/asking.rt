@@ -19,10 +19,5 @@ pub fn leads_anywhere(clocks: Clocks, e: Edge, from: Region) -> bool
     ensures some { result ≡ true → (x : Row) × Mem x (edge_rows (bounds_of clocks) (edge_of clocks.count e) (row_of clocks.count from)) }
     ensures none { result ≡ false → edge_rows (bounds_of clocks) (edge_of clocks.count e) (row_of clocks.count from) ≡ [] }
 {
-    if !is_enabled(clocks, from, e) {
-        return false;
-    }
-    let way = open_way(clocks, from, e);
-    let next = way.next(missing());
-    next.found
+    is_enabled(clocks, from, e) && open_way(clocks, from, e).next(missing()).found
 }

@@ -14,13 +14,9 @@ pub fn unless_listed(list: &[u8], clocks: Clocks, count: usize, next: Sought, hi
     requires ascends { Ascends (listed_rows clocks.count list.now count) }
     ensures { NewOf clocks.count (held (found_of clocks.count next)) (listed_rows clocks.count list.now count) result }
 {
-    if !next.found {
-        return next;
+    if next.found && find(list, clocks, count, next.region, hint).is_ok() {
+        missing()
+    } else {
+        next
     }
-    let region = next.region;
-    let found = find(list, clocks, count, region, hint);
-    if !found.listed {
-        return next;
-    }
-    missing()
 }

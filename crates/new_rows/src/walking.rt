@@ -38,12 +38,10 @@ pub fn first_new(
     let mut next = way.next(floor);
     let mut last = hint;
     while next.found {
-        let region = next.region;
-        let found = find(list, clocks, count, region, last);
-        if !found.listed {
-            return next;
+        match find(list, clocks, count, next.region, last) {
+            Ok(at) => last = at,
+            Err(_) => return next,
         }
-        last = found.at;
         next = way.next(next);
     }
     next
@@ -78,7 +76,7 @@ pub fn new_by_walk(
         }
     }
     let inside = leads_inside(list, clocks, count, e, from, into, hint);
-    if inside.listed {
+    if inside.is_ok() {
         return missing();
     }
     first_new(list, clocks, count, way, missing(), hint)

@@ -34,8 +34,7 @@ fn source_at(file: &[u8], at: usize, clocks: u8) -> u8
     requires { Stands clocks file.now at }
     ensures { result ≡ (edge_at clocks file.now at).source }
 {
-    let bytes = part(file, at, 5);
-    bytes[2]
+    part(file, at, 5)[2]
 }
 
 // Asks an edge of the table.
@@ -58,26 +57,20 @@ fn ask(
 {
     let clocks = head.clocks;
     if is_final(table, head, e.target) {
-        if entered {
-            return Asked {
-                next: missing(),
-                entered: true,
-            };
-        }
         return Asked {
             next: missing(),
-            entered: leads_anywhere(clocks, e, from),
+            entered: entered || leads_anywhere(clocks, e, from),
         };
     }
     if is_deterministic(clocks, e) {
         return Asked {
             next: new_by_image(list, clocks, count, e, from, 2 * count),
-            entered: entered,
+            entered,
         };
     }
     Asked {
         next: missing(),
-        entered: entered,
+        entered,
     }
 }
 
@@ -98,12 +91,11 @@ pub fn ask_at(
     requires by_index { (j : ℕ) × (j < head.edges) × (at ≡ edge_start head.clocks.count head.locations table.now j) }
     ensures { (j : ℕ) → j < head.edges → at ≡ edge_start head.clocks.count head.locations table.now j → Asks (table_of table.now) (listed_rows head.clocks.count list.now count) head.clocks.count (suc j) (row_of head.clocks.count from) entered result.next result.entered }
 {
-    let clocks = head.clocks;
-    let n = clocks.count;
+    let n = head.clocks.count;
     if source_at(table, at, n) != from.location {
         return Asked {
             next: missing(),
-            entered: entered,
+            entered,
         };
     }
     ask(

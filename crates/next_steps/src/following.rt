@@ -37,29 +37,26 @@ fn follow_edges(
     ensures follows { Follows (table_of table.now) (listed_rows head.clocks.count list.now count) head.clocks.count step (row_of head.clocks.count from) entered result }
     ensures here { (j : ℕ) → result.step ≡ suc j → result.here ≡ edge_start head.clocks.count head.locations table.now j }
 {
-    let n = head.clocks.count;
     let mut seen = entered;
     let mut at = here;
-    let mut k = step;
-    while k <= head.edges {
+    let end = head.edges + 1;
+    for k in step..end {
         let asked = ask_at(table, head, list, count, at, from, seen);
         seen = asked.entered;
-        let next = asked.next;
-        if next.found {
+        if asked.next.found {
             return Stride {
-                next: next,
+                next: asked.next,
                 step: k,
                 here: at,
                 entered: seen,
                 from: missing(),
             };
         }
-        at = after_edge(table, at, n);
-        k += 1;
+        at = after_edge(table, at, head.clocks.count);
     }
     Stride {
         next: missing(),
-        step: k,
+        step: end,
         here: at,
         entered: seen,
         from: missing(),
@@ -89,14 +86,13 @@ pub fn follow_row(
     if step != 0 {
         return follow_edges(table, head, list, count, from, step, here, entered);
     }
-    let clocks = head.clocks;
-    let next = new_by_waiting(list, clocks, count, from, 2 * count);
+    let next = new_by_waiting(list, head.clocks, count, from, 2 * count);
     if next.found {
         return Stride {
-            next: next,
+            next,
             step: 0,
-            here: here,
-            entered: entered,
+            here,
+            entered,
             from: missing(),
         };
     }

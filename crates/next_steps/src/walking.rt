@@ -49,10 +49,8 @@ fn mark_old(list: &[u8], n: usize, first: usize, start: usize, end: usize, old: 
     ensures same { length old.new ≡ 4096 }
     ensures old { (i : ℕ) → start ≤ i → i < end → taken_at old.new i ≡ ltb (birth n list.now i) first }
 {
-    let mut i = start;
-    while i < end {
+    for i in start..end {
         old[i] = birth_at(list, n, i) < first;
-        i += 1;
     }
 }
 
@@ -96,18 +94,6 @@ fn new_from(
     new_by_walk(list, clocks, count, e, from, into, floor, 2 * count)
 }
 
-// Where the few rows end that stand after one of them.
-fn near_end(at: usize, count: usize) -> usize
-    requires at_le_count { at ≤ count }
-    requires count_bound { count ≤ 4096 }
-    ensures { result ≤ count }
-{
-    if at + 9 < count {
-        return at + 9;
-    }
-    count
-}
-
 // A new row that the edge leads to from one of the few rows after the one that was walked from last: rows that stand together often lead further together,
 // and then no other row has to be chosen. It is a guess, and where it finds nothing, nothing is known.
 fn walk_near(list: &[u8], clocks: Clocks, count: usize, e: Edge, last: Region) -> Walk
@@ -116,21 +102,18 @@ fn walk_near(list: &[u8], clocks: Clocks, count: usize, e: Edge, last: Region) -
 {
     let n = clocks.count as usize;
     let at = rows_below(list, clocks, count, last, 2 * count);
-    let end = near_end(at, count);
-    let mut i = at + 1;
-    while i < end {
+    for i in at + 1..count.min(at + 9) {
         let region = row_at(list, n, i);
         let next = new_from(list, clocks, count, e, region, missing());
         if next.found {
             return Walk {
-                next: next,
+                next,
                 from: Sought {
                     found: true,
-                    region: region,
+                    region,
                 },
             };
         }
-        i += 1;
     }
     Walk {
         next: missing(),
@@ -156,14 +139,10 @@ fn walk_edge(
     if last.found {
         let next = new_from(list, clocks, count, e, last.region, floor);
         if next.found {
-            return Walk {
-                next: next,
-                from: last,
-            };
+            return Walk { next, from: last };
         }
         let near = walk_near(list, clocks, count, e, last.region);
-        let found = near.next;
-        if found.found {
+        if near.next.found {
             return near;
         }
     }
@@ -186,10 +165,7 @@ fn is_plain(table: &[u8], head: Head, e: Edge) -> bool
     requires by_index { (j : ℕ) × (j < head.edges) × (edge_of head.clocks.count e ≡ edge (table_of table.now) j) }
     ensures { (j : ℕ) → j < head.edges → edge_of head.clocks.count e ≡ edge (table_of table.now) j → result ≡ plain (table_of table.now) (suc j) }
 {
-    if is_final(table, head, e.target) {
-        return true;
-    }
-    is_deterministic(head.clocks, e)
+    is_final(table, head, e.target) || is_deterministic(head.clocks, e)
 }
 
 // The steps from one edge on that are not plain, from all rows, up to the first new row. All rows that were found before this number are known to lead into
@@ -217,36 +193,32 @@ pub fn walk_edges(
     ensures entered { result.entered ≡ entered }
     ensures here { (j : ℕ) → result.step ≡ suc j → result.here ≡ edge_start head.clocks.count head.locations table.now j }
 {
-    let clocks = head.clocks;
-    let n = clocks.count;
+    let n = head.clocks.count;
     let mut last = from;
     let mut at = here;
-    let mut k = step;
-    while k <= head.edges {
+    let end = head.edges + 1;
+    for k in step..end {
         let e = edge_from(table, at, n);
         if !is_plain(table, head, e) {
-            let walk = walk_edge(list, clocks, count, e, first, last, floor);
-            let next = walk.next;
-            let met = walk.from;
-            if next.found {
+            let walk = walk_edge(list, head.clocks, count, e, first, last, floor);
+            if walk.next.found {
                 return Stride {
-                    next: next,
+                    next: walk.next,
                     step: k,
                     here: at,
-                    entered: entered,
-                    from: met,
+                    entered,
+                    from: walk.from,
                 };
             }
         }
         last = missing();
         at = after_edge(table, at, n);
-        k += 1;
     }
     Stride {
         next: missing(),
-        step: k,
+        step: end,
         here: at,
-        entered: entered,
+        entered,
         from: missing(),
     }
 }

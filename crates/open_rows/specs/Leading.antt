@@ -1,10 +1,10 @@
 -- What a list lacks, and what is known of its rows. Assumes nothing.
 use Rattle.std.specs.Prelude.{ℕ, ◌<◌, ◌≡◌, Bool, true, false, List}
-use Rattle.automata.specs.Clocks.{at}
 use Rattle.automata.specs.Row.{IsRow}
 use Rattle.automata.specs.Edge.{Edge}
 use Rattle.automata.specs.Successors.{edge_rows}
 use Rattle.automata.specs.Checks.{has}
+use Rattle.skylines.specs.declared.reach.Reach.{Reach}
 use Rattle.skylines.specs.Skyline.{member}
 use Rattle.regions.specs.Values.{bounds_of, row_of}
 use Rattle.regions.specs.declared.region.Clocks.{Clocks}
@@ -21,6 +21,6 @@ pub record Lacked (k : Clocks) (list : List ℕ) (count : ℕ) (e : edge_code.Ed
   pub missing : has (listed_rows k.count list count) (row_of k.count v) ≡ false
 
 -- each reach that is marked is that of a row that the edge leads into the list from
-pub record Known (c : List ℕ) (e : Edge) (n : ℕ) (list : List ℕ) (count : ℕ) (ms : List (List ℕ)) (marks : List Bool) : Type 0 where
+pub record Known (c : List ℕ) (e : Edge) (n : ℕ) (list : List ℕ) (count : ℕ) (ms : List Reach) (marks : List Bool) : Type 0 where
   pub sits : (k : ℕ) → k < 64 → taken_at marks k ≡ true → Sits c e n list 0 count (member ms k)
-  pub leads : (k : ℕ) → k < 64 → taken_at marks k ≡ true → Inside (edge_rows c e) n list count (at (member ms k) 8)
+  pub leads : (k : ℕ) → k < 64 → taken_at marks k ≡ true → Inside (edge_rows c e) n list count (member ms k).row

@@ -34,9 +34,9 @@ pub fn first_alike(
     if end <= i {
         return end;
     }
-    let found = leads_from(list, clocks, count, e, into, i, 2 * count);
-    if found.listed {
-        return end;
+    if leads_from(list, clocks, count, e, into, i, 2 * count).is_ok() {
+        end
+    } else {
+        i
     }
-    i
 }

@@ -1,5 +1,5 @@
 // The first row of a location from which a deterministic edge leads out of a region list: it leads to one row at most.
-ghost use Rattle.std.specs.Prelude.{◌≡◌, true, ◌<◌, length};
+ghost use Rattle.std.specs.Prelude.{◌≡◌, true, ◌<◌, length, is_ok};
 ghost use Rattle.automata.specs.Row.{IsRow};
 ghost use Rattle.automata.specs.Successors.{edge_rows};
 ghost use Rattle.regions.specs.Image.{deterministic};
@@ -10,10 +10,10 @@ ghost use Rattle.walked_rows.specs.Open.{Inside, FirstOpen};
 ghost use Rattle.walked_rows.specs.Leading.{Suited, Stretch};
 ghost use Rattle.open_rows.specs.Leading.{Known};
 
-use listed_rows::listed::{Found, find, row_at};
+use listed_rows::listed::{find, row_at};
 use regions::edge::Edge;
 use regions::region::{Clocks, Region};
-use skylines::reach::{is_within, reach_of};
+use skylines::reach::{Reach, is_within, reach_of};
 
 // Whether a deterministic edge leads from a region of its source into the list: it leads to one region at most, where its guards hold.
 fn leads_to_one(
@@ -23,39 +23,28 @@ fn leads_to_one(
     e: Edge,
     from: Region,
     hint: usize,
-) -> Found
+) -> Result<usize, usize>
     requires suited { Suited clocks list.now count e }
     requires e_value { deterministic clocks.count (edge_of clocks.count e) ≡ true }
     requires row { IsRow (bounds_of clocks) (row_of clocks.count from) }
     requires location_value { from.location ≡ e.source }
-    ensures { result.listed ≡ every (has (listed_rows clocks.count list.now count)) (edge_rows (bounds_of clocks) (edge_of clocks.count e) (row_of clocks.count from)) }
+    ensures { is_ok result ≡ every (has (listed_rows clocks.count list.now count)) (edge_rows (bounds_of clocks) (edge_of clocks.count e) (row_of clocks.count from)) }
 {
-    if !from.guards_hold(clocks, e) {
-        return Found {
-            listed: true,
-            at: hint,
-        };
+    if from.guards_hold(clocks, e) {
+        let next = from.image(clocks, e);
+        if next.found {
+            return find(list, clocks, count, next.region, hint);
+        }
     }
-    let next = from.image(clocks, e);
-    if !next.found {
-        return Found {
-            listed: true,
-            at: hint,
-        };
-    }
-    let region = next.region;
-    find(list, clocks, count, region, hint)
+    Ok(hint)
 }
 
 // A slot for a reach. Any would be right; different ones had better have different slots.
-fn slot(reach: [u32; 9]) -> usize
+fn slot(reach: Reach) -> usize
     ensures { result < 64 }
 {
-    let first = reach[0] % 1024;
-    let second = reach[1] % 1024;
-    let third = reach[2] % 1024;
-    let fourth = reach[3] % 1024;
-    ((first + 3 * second + 7 * third + 13 * fourth) % 64) as usize
+    let part = |z: usize| reach.lows[z] as usize % 64;
+    (part(0) + 3 * part(1) + 7 * part(2) + 13 * part(3)) % 64
 }
 
 // Whether the edge leads into the list from row i of its source. The reaches of rows from where it does are kept, in each slot the last: from a row whose
@@ -67,9 +56,9 @@ fn image_inside(
     e: Edge,
     i: usize,
     hint: usize,
-    members: &mut [[u32; 9]],
+    members: &mut [Reach],
     known: &mut [bool],
-) -> Found
+) -> Result<usize, usize>
     requires suited { Suited clocks list.now count e }
     requires e_value { deterministic clocks.count (edge_of clocks.count e) ≡ true }
     requires i_lt_count { i < count }
@@ -77,31 +66,22 @@ fn image_inside(
     requires members_len { length members.old ≡ 64 }
     requires known_len { length known.old ≡ 64 }
     requires known_2 { Known (bounds_of clocks) (edge_of clocks.count e) clocks.count list.now count members.old known.old }
-    ensures listed { result.listed ≡ every (has (listed_rows clocks.count list.now count)) (edge_rows (bounds_of clocks) (edge_of clocks.count e) (listed_row clocks.count list.now i)) }
+    ensures listed { is_ok result ≡ every (has (listed_rows clocks.count list.now count)) (edge_rows (bounds_of clocks) (edge_of clocks.count e) (listed_row clocks.count list.now i)) }
     ensures known { Known (bounds_of clocks) (edge_of clocks.count e) clocks.count list.now count members.new known.new }
 {
     let n = clocks.count as usize;
     let row = row_at(list, n, i);
     if !row.guards_hold(clocks, e) {
-        return Found {
-            listed: true,
-            at: hint,
-        };
+        return Ok(hint);
     }
     let own = reach_of(clocks, e, row, i as u32);
     let k = slot(own);
-    let other = members[k];
-    if known[k] {
-        if is_within(n, own, other) {
-            return Found {
-                listed: true,
-                at: hint,
-            };
-        }
+    if known[k] && is_within(n, own, members[k]) {
+        return Ok(hint);
     }
     let found = leads_to_one(list, clocks, count, e, row, hint);
     members[k] = own;
-    known[k] = found.listed;
+    known[k] = found.is_ok();
     found
 }
 
@@ -119,27 +99,14 @@ pub fn first_by_image(
     requires stretch { Stretch clocks.count list.now count e.source start end }
     ensures { FirstOpen (Inside (edge_rows (bounds_of clocks) (edge_of clocks.count e)) clocks.count list.now count) start end result }
 {
-    let none = [0; 9];
-    let mut members = [none; 64];
+    let mut members = [Reach::default(); 64];
     let mut known = [false; 64];
     let mut hint = 2 * count;
-    let mut i = start;
-    while i < end {
-        let found = image_inside(
-            list,
-            clocks,
-            count,
-            e,
-            i,
-            hint,
-            &mut members[..],
-            &mut known[..],
-        );
-        if !found.listed {
-            return i;
+    for i in start..end {
+        match image_inside(list, clocks, count, e, i, hint, &mut members, &mut known) {
+            Ok(at) => hint = at,
+            Err(_) => return i,
         }
-        hint = found.at;
-        i += 1;
     }
     end
 }

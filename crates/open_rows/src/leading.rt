@@ -42,13 +42,11 @@ fn first_by_sides(
     ensures { FirstOpen (Inside (edge_rows (bounds_of clocks) (edge_of clocks.count e)) clocks.count list.now count) start end result }
 {
     let mut first = end;
-    let mut k: u8 = 0;
-    while k < 16 {
+    for k in 0..16 {
         if is_choice(clocks, e, k) {
             let side = with_sides(clocks, e, k);
             first = first_by_walks(list, clocks, count, side, into, start, first);
         }
-        k += 1;
     }
     first
 }
@@ -109,12 +107,10 @@ pub fn first_by_edges(table: &[u8], head: Head, list: &[u8], count: usize, end: 
     let n = clocks.count;
     let mut first = end;
     let mut at = first_edge(head);
-    let mut k = 0;
-    while k < head.edges {
+    for _ in 0..head.edges {
         let e = edge_from(table, at, n);
         first = first_by_edge(list, clocks, count, e, first);
         at = after_edge(table, at, n);
-        k += 1;
     }
     first
 }

@@ -35,21 +35,17 @@ fn lacked_before(
 {
     let n = clocks.count as usize;
     let way = open_way(clocks, from, e);
-    let search = way.search;
-    let mut k = into.end;
-    while into.start < k {
-        k -= 1;
-        if k < gap {
-            let row = row_at(list, n, k);
-            if search.allows(row) {
-                return way.next(Sought {
-                    found: true,
-                    region: row,
-                });
-            }
-        }
+    let last = (into.start..into.end.min(gap))
+        .rev()
+        .map(|k| row_at(list, n, k))
+        .find(|row| way.search.allows(*row));
+    match last {
+        Some(region) => way.next(Sought {
+            found: true,
+            region,
+        }),
+        None => way.next(missing()),
     }
-    way.next(missing())
 }
 
 // Whether the edge permits the region's intervals, clock by clock, from another region. It asks few of the clocks where it does not.
@@ -57,16 +53,10 @@ fn intervals_fit(clocks: Clocks, e: Edge, from: Region, region: Region) -> bool
     requires few { Few clocks }
     requires bounded { Bounded (bounds_of clocks) (edge_of clocks.count e) }
 {
-    let n = clocks.count as usize;
-    let mut z = 0;
-    while z < n {
+    (0..clocks.count as usize).all(|z| {
         let asked = from.clock_move(clocks, z, e.updates[z]);
-        if !asked.permits(region.intervals[z]) {
-            return false;
-        }
-        z += 1;
-    }
-    true
+        asked.permits(region.intervals[z])
+    })
 }
 
 // Whether a region that was guessed is one of the target, and is not in the list.
@@ -74,18 +64,10 @@ fn is_lacked(list: &[u8], clocks: Clocks, count: usize, e: Edge, guess: Sought) 
     requires { Suited clocks list.now count e }
     ensures { result ≡ true → Lacked clocks list.now count e guess.region }
 {
-    if !guess.found {
+    if !guess.found || guess.region.location != e.target || !guess.region.is_region(clocks) {
         return false;
     }
-    let region = guess.region;
-    if region.location != e.target {
-        return false;
-    }
-    if !region.is_region(clocks) {
-        return false;
-    }
-    let found = find(list, clocks, count, region, 2 * count);
-    !found.listed
+    find(list, clocks, count, guess.region, 2 * count).is_err()
 }
 
 // Whether the edge leads to a region of its target from row i.
@@ -97,18 +79,11 @@ fn leads_to(list: &[u8], clocks: Clocks, count: usize, e: Edge, i: usize, region
     ensures { result ≡ true → Mem (row_of clocks.count region) (edge_rows (bounds_of clocks) (edge_of clocks.count e) (listed_row clocks.count list.now i)) }
 {
     let row = row_at(list, clocks.count as usize, i);
-    if !intervals_fit(clocks, e, row, region) {
-        return false;
-    }
-    if !row.guards_hold(clocks, e) {
+    if !intervals_fit(clocks, e, row, region) || !row.guards_hold(clocks, e) {
         return false;
     }
     let way = open_way(clocks, row, e);
-    if !way.leads {
-        return false;
-    }
-    let search = way.search;
-    search.allows(region)
+    way.leads && way.search.allows(region)
 }
 
 // The first row from start to before end from which the edge leads to a region that the list lacks, or end.
@@ -127,14 +102,9 @@ fn first_leading_to(
     ensures range { (start ≤ result) × (result ≤ end) }
     ensures leads { result < end → Mem (row_of clocks.count region) (edge_rows (bounds_of clocks) (edge_of clocks.count e) (listed_row clocks.count list.now result)) }
 {
-    let mut i = start;
-    while i < end {
-        if leads_to(list, clocks, count, e, i, region) {
-            return i;
-        }
-        i += 1;
-    }
-    end
+    (start..end)
+        .find(|i| leads_to(list, clocks, count, e, *i, region))
+        .unwrap_or(end)
 }
 
 // An open row from start to before end, or end: the first that lacks what the last of them seems to lack. Where end is told, the last may be open all the

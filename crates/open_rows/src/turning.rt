@@ -13,16 +13,6 @@ use regions::edge::Edge;
 use regions::region::Clocks;
 use walked_rows::turning::open_by_walks;
 
-// The lesser of two rows.
-fn least(a: usize, b: usize) -> usize
-    ensures { result ≡ min a b }
-{
-    if a < b {
-        return a;
-    }
-    b
-}
-
 // How far to look next, if the edge leads into the list from the rows before low, and out of it from the first found so far: at all rows before that one,
 // or at half of them.
 fn next_top(low: usize, first: usize, halve: bool) -> usize
@@ -52,13 +42,7 @@ fn open_at_end(
     ensures range { (start ≤ result) × (result ≤ end) }
     ensures open { result < end → Inside (edge_rows (bounds_of clocks) (edge_of clocks.count e)) clocks.count list.now count result → ⊥ }
 {
-    if end <= start {
-        return end;
-    }
-    if count <= end {
-        return end;
-    }
-    if location_at(list, clocks.count as usize, end) != e.source {
+    if end <= start || count <= end || location_at(list, clocks.count as usize, end) != e.source {
         return end;
     }
     traced(list, clocks, count, e, into, start, end)
@@ -88,7 +72,7 @@ pub fn first_by_walks(
     while low < first {
         let open = open_by_walks(list, clocks, count, e, into, low, top);
         if open < top {
-            first = least(open, traced(list, clocks, count, e, into, low, open + 1));
+            first = open.min(traced(list, clocks, count, e, into, low, open + 1));
             top = next_top(low, first, again);
             again = true;
         } else {

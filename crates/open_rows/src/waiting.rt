@@ -19,12 +19,7 @@ fn waits_inside(list: &[u8], clocks: Clocks, count: usize, from: Region, hint: u
     ensures { result ≡ every (has (listed_rows clocks.count list.now count)) (wait_rows (bounds_of clocks) (row_of clocks.count from)) }
 {
     let next = from.wait(clocks);
-    if next.found {
-        let region = next.region;
-        let found = find(list, clocks, count, region, hint);
-        return found.listed;
-    }
-    true
+    !next.found || find(list, clocks, count, next.region, hint).is_ok()
 }
 
 // The first row that lacks its next row by waiting, or the count of rows.
@@ -34,13 +29,7 @@ pub fn first_by_waiting(list: &[u8], clocks: Clocks, count: usize) -> usize
     ensures { FirstOpen (Inside (wait_rows (bounds_of clocks)) clocks.count list.now count) 0 count result }
 {
     let n = clocks.count as usize;
-    let mut i = 0;
-    while i < count {
-        let row = row_at(list, n, i);
-        if !waits_inside(list, clocks, count, row, i + 1) {
-            return i;
-        }
-        i += 1;
-    }
-    count
+    (0..count)
+        .find(|i| !waits_inside(list, clocks, count, row_at(list, n, *i), *i + 1))
+        .unwrap_or(count)
 }

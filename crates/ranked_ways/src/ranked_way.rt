@@ -6,19 +6,17 @@ ghost use Rattle.rankings.specs.Ranking.{pattern};
 ghost use Rattle.ranked_ways.specs.Allowed.{partedb, parted_at};
 ghost use Rattle.ranked_ways.specs.Memo.{marked};
 
-use rankings::ranking::weight_if;
+use rankings::ranking::pattern_where;
 use regions::clock_move::Move;
 use regions::placing::Moves;
 use regions::region::Region;
 
 // Whether the order of a clock's new value to what it is compared with is that of the fractional parts.
+#[tactic(auto, unfolding(crate::specs::Allowed::partedb))]
 fn is_parted(asked: Move, interval: u16) -> bool
     ensures { result ≡ partedb asked interval }
 {
-    if interval == asked.top {
-        return false;
-    }
-    asked.is_by_parts(interval)
+    interval != asked.top && asked.is_by_parts(interval)
 }
 
 // The number of the choice of clocks of which that is so. Where it is 0, every ranking is allowed, since each interval is.
@@ -26,28 +24,19 @@ pub fn parted_pattern(moves: Moves, part: Region, count: usize) -> usize
     requires { count ≤ 4 }
     ensures { result ≡ pattern (parted_at moves.each part) count }
 {
-    let mut sum = 0;
-    let mut z = 0;
-    while z < count {
-        let asked = moves.each[z];
-        sum += weight_if(is_parted(asked, part.intervals[z]), z);
-        z += 1;
-    }
-    sum
+    pattern_where(count, |z| is_parted(moves.each[z], part.intervals[z]))
 }
 
 // How an answer is remembered; 0 is none.
 fn mark(allowed: bool) -> u8
     ensures { result ≡ 1 + one_if allowed }
 {
-    if !allowed {
-        return 1;
-    }
-    2
+    1 + u8::from(allowed)
 }
 
 // Whether the moves allow a region. The answer turns on its ranks and on the clocks that go by the fractional parts, and on nothing else of its intervals,
 // so it is worked out once for all of those and remembered at their place.
+#[tactic(auto, using(crate::proofs::Laws::Memo::marked_none, crate::proofs::Laws::Memo::marked_known, crate::proofs::Laws::Memo::marked_new))]
 pub fn is_allowed(
     memo: &mut [u8],
     place: usize,
@@ -68,14 +57,13 @@ pub fn is_allowed(
     if parts == 0 {
         return true;
     }
-    let known = memo[place];
-    if known == 1 {
-        return false;
+    match memo[place] {
+        1 => false,
+        2 => true,
+        _ => {
+            let allowed = moves.are_placed(region, n);
+            memo[place] = mark(allowed);
+            allowed
+        }
     }
-    if known == 2 {
-        return true;
-    }
-    let allowed = moves.are_placed(region, n);
-    memo[place] = mark(allowed);
-    allowed
 }

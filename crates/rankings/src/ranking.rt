@@ -1,9 +1,9 @@
 // The rankings of the clocks with open intervals, by number: read from a table, so that none has to be searched for.
-ghost use Rattle.std.specs.Prelude.{◌≡◌, cond, [], ◌+◌, ◌<◌, length, get_or, take};
+ghost use Rattle.std.specs.Prelude.{ℕ, Bool, ◌≡◌, cond, [], ◌+◌, ◌≤◌, ◌<◌, length, get_or, take};
 ghost use Rattle.regions.specs.Values.{Few, row_of, padded};
 ghost use Rattle.automata.specs.Clocks.{at};
 ghost use Rattle.rankings.specs.Table.{starts, table};
-ghost use Rattle.rankings.specs.Ranking.{rows_ranked, InRange, weight, pattern_of, first_ranking};
+ghost use Rattle.rankings.specs.Ranking.{rows_ranked, InRange, weight, pattern, pattern_of, first_ranking};
 
 use regions::region::{Clocks, Region, is_open};
 
@@ -171,6 +171,7 @@ const RANKINGS: [[u8; 4]; 150] = [
 ];
 
 // Where the rankings of a choice of open clocks begin.
+#[tactic(auto, unfolding(crate::specs::Table::starts))]
 fn start_of(pattern: usize) -> usize
     requires { pattern < 17 }
     ensures { result ≡ at starts pattern }
@@ -179,6 +180,7 @@ fn start_of(pattern: usize) -> usize
 }
 
 // The whole table, for who reads many rankings: it is made once, and lent for each of them.
+#[tactic(auto, unfolding(crate::specs::Table::table))]
 pub fn all_rankings() -> [[u8; 4]; 150]
     ensures { result ≡ table }
 {
@@ -190,25 +192,32 @@ pub fn weight_if(inside: bool, z: usize) -> usize
     requires { z < 4 }
     ensures { result ≡ cond inside (weight z) 0 }
 {
-    if !inside {
-        return 0;
+    if inside { WEIGHTS[z] } else { 0 }
+}
+
+// The number of the choice of those of the first n clocks that pass a test.
+pub fn pattern_where<F: Fn(usize) -> bool>(n: usize, passes: F) -> usize
+    requires n_bound { n ≤ 4 }
+    requires callable { (z : ℕ) → z < n → F.pre passes z }
+    ensures { (test : ℕ → Bool) → ((z : ℕ) (b : Bool) → z < n → F.post passes z b → b ≡ test z) → result ≡ pattern test n }
+{
+    let mut sum = 0;
+    for z in 0..n {
+        sum += weight_if(passes(z), z);
     }
-    WEIGHTS[z]
+    sum
 }
 
 // The number of the choice of open clocks that a part has.
 fn open_pattern(clocks: Clocks, part: Region) -> usize
     requires { Few clocks }
-    ensures { result ≡ pattern_of clocks part }
+    ensures value { result ≡ pattern_of clocks part }
+    ensures low { result < 16 }
 {
-    let n = clocks.count as usize;
-    let mut sum = 0;
-    let mut z = 0;
-    while z < n {
-        sum += weight_if(is_open(clocks.bounds[z], part.intervals[z]), z);
-        z += 1;
-    }
-    sum
+    pattern_where(
+        usize::from(clocks.count),
+        |z| is_open(clocks.bounds[z], part.intervals[z]),
+    )
 }
 
 // How many regions have the location and the intervals of the part.
@@ -230,6 +239,7 @@ pub fn first_ranking(clocks: Clocks, part: Region) -> usize
 }
 
 // Region j of those that have the location and the intervals of the part, ascending, where it is known at which of the table's rows they begin.
+#[tactic(auto, using(crate::proofs::Laws::Ranking::zeros_after, crate::proofs::Laws::Ranking::row_at))]
 pub fn ranked_from(
     rankings: &[[u8; 4]],
     clocks: Clocks,
@@ -248,12 +258,9 @@ pub fn ranked_from(
     ensures ranks { result.ranks ≡ padded (take clocks.count result.ranks) }
     ensures table { result.ranks ≡ get_or table (first + j) [] }
 {
-    let intervals = part.intervals;
-    let ranks = rankings[first + j];
     Region {
-        location: part.location,
-        intervals: intervals,
-        ranks: ranks,
+        ranks: rankings[first + j],
+        ..part
     }
 }
 
@@ -267,6 +274,11 @@ pub fn ranked(clocks: Clocks, part: Region, j: usize) -> Region
     ensures intervals { result.intervals ≡ part.intervals }
     ensures ranks { result.ranks ≡ padded (take clocks.count result.ranks) }
 {
-    let rankings = all_rankings();
-    ranked_from(&rankings, clocks, part, first_ranking(clocks, part), j)
+    ranked_from(
+        &all_rankings(),
+        clocks,
+        part,
+        first_ranking(clocks, part),
+        j,
+    )
 }

@@ -17,15 +17,10 @@ pub fn first_unordered(list: &[u8], clocks: Clocks, count: usize) -> u16
     ensures { (file : List ℕ) → ascending 1 (listed_rows clocks.count list.now count) file ≡ passed 14 result file }
 {
     let n = clocks.count as usize;
-    let mut i = 0;
-    while i + 1 < count {
-        let next = row_at(list, n, i + 1);
-        if !row_is_below(list, n, i, next) {
-            return (i + 2) as u16;
-        }
-        i += 1;
+    match (1..count).find(|&i| !row_is_below(list, n, i - 1, row_at(list, n, i))) {
+        Some(i) => (i + 1) as u16,
+        None => 0,
     }
-    0
 }
 
 // The place of the first row whose location is final, or 0.
@@ -35,14 +30,9 @@ pub fn first_final(table: &[u8], head: Head, list: &[u8], count: usize) -> u16
     requires by_index { (i : ℕ) → i < count → (listed_row head.clocks.count list.now i).location < head.locations }
     ensures { (file : List ℕ) → none_final (table_of table.now) 1 (listed_rows head.clocks.count list.now count) file ≡ passed 15 result file }
 {
-    let clocks = head.clocks;
-    let n = clocks.count as usize;
-    let mut i = 0;
-    while i < count {
-        if is_final(table, head, location_at(list, n, i)) {
-            return (i + 1) as u16;
-        }
-        i += 1;
+    let n = head.clocks.count as usize;
+    match (0..count).find(|&i| is_final(table, head, location_at(list, n, i))) {
+        Some(i) => (i + 1) as u16,
+        None => 0,
     }
-    0
 }

@@ -27,8 +27,7 @@ fn read_rows(table: &[u8], head: Head, list: &[u8], count: u16) -> ListRead
     let clocks = head.clocks;
     let size = row_width(clocks.count as usize);
     let mut at = 4;
-    let mut i = 0;
-    while i < count {
+    for i in 0..count {
         let row = read_row(list, at, table, head);
         if row.number != 0 {
             return ListRead {
@@ -38,7 +37,6 @@ fn read_rows(table: &[u8], head: Head, list: &[u8], count: u16) -> ListRead
             };
         }
         at += size;
-        i += 1;
     }
     ListRead {
         number: 0,

@@ -28,9 +28,8 @@ fn check_rows(table: &[u8], head: Head, list: &[u8], count: u16) -> Answer
     requires list_len { length (rows_of (table_of table.now) list.now) ≡ count }
     ensures { answer_of result ≡ answered length (list_checked (table_of table.now) list.now) }
 {
-    let clocks = head.clocks;
     let rows = count as usize;
-    let unordered = first_unordered(list, clocks, rows);
+    let unordered = first_unordered(list, head.clocks, rows);
     if unordered != 0 {
         return Answer::Refused(14, unordered);
     }
@@ -39,7 +38,7 @@ fn check_rows(table: &[u8], head: Head, list: &[u8], count: u16) -> Answer
         return Answer::Refused(15, ending);
     }
     let initial = initial_row(head);
-    if !is_listed(list, clocks, rows, initial) {
+    if !is_listed(list, head.clocks, rows, initial) {
         return Answer::Refused(16, 0);
     }
     let first = first_open(table, head, list, rows);

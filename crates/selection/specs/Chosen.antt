@@ -6,6 +6,7 @@ use Rattle.automata.specs.Edge.{Edge}
 use Rattle.automata.specs.Successors.{guardsb, edge_rows}
 use Rattle.automata.specs.Checks.{every}
 use Rattle.skylines.specs.Reach.{ReachOf}
+use Rattle.skylines.specs.declared.reach.Reach.{Reach}
 use Rattle.skylines.specs.Skyline.{member}
 use Rattle.listed_rows.specs.Listed.{listed_row}
 
@@ -14,24 +15,24 @@ abbrev pub Leads : List ℕ → Edge → ℕ → List ℕ → (Row → Bool) →
 Leads c e n list p i = every p (edge_rows c e (listed_row n list i)) ≡ true
 
 -- a reach is that of the row whose number it has, which is one from lo to before hi that the edge can be taken from
-pub record Sits (c : List ℕ) (e : Edge) (n : ℕ) (list : List ℕ) (lo hi : ℕ) (m : List ℕ) : Type 0 where
-  pub from : lo ≤ at m 8
-  pub to : at m 8 < hi
-  pub located : (listed_row n list (at m 8)).location ≡ e.source
-  pub guarded : guardsb (listed_row n list (at m 8)) e.guards ≡ true
-  pub reach : ReachOf c e (listed_row n list (at m 8)) (at m 8) m
+pub record Sits (c : List ℕ) (e : Edge) (n : ℕ) (list : List ℕ) (lo hi : ℕ) (m : Reach) : Type 0 where
+  pub from : lo ≤ m.row
+  pub to : m.row < hi
+  pub located : (listed_row n list m.row).location ≡ e.source
+  pub guarded : guardsb (listed_row n list m.row) e.guards ≡ true
+  pub reach : ReachOf c e (listed_row n list m.row) m.row m
 
 -- so do the first so many of them
-abbrev pub AllSit : List ℕ → Edge → ℕ → List ℕ → ℕ → ℕ → List (List ℕ) → ℕ → Type 0
+abbrev pub AllSit : List ℕ → Edge → ℕ → List ℕ → ℕ → ℕ → List Reach → ℕ → Type 0
 AllSit c e n list lo hi ms size = (k : ℕ) → k < size → Sits c e n list lo hi (member ms k)
 
 -- all rows that the edge leads to from the rows of the first so many pass a test
-abbrev pub AllLead : List ℕ → Edge → ℕ → List ℕ → (Row → Bool) → List (List ℕ) → ℕ → Type 0
-AllLead c e n list p ms size = (k : ℕ) → k < size → Leads c e n list p (at (member ms k) 8)
+abbrev pub AllLead : List ℕ → Edge → ℕ → List ℕ → (Row → Bool) → List Reach → ℕ → Type 0
+AllLead c e n list p ms size = (k : ℕ) → k < size → Leads c e n list p ((member ms k).row)
 
 -- row i is offered to those that are chosen, unless it is taken already: what passes from all that are chosen then passes from all that were, and from row i
 -- if it is taken now, as it is where none was chosen
-pub record Offers (c : List ℕ) (e : Edge) (n : ℕ) (list : List ℕ) (lo hi i : ℕ) (already : Bool) (ms : List (List ℕ)) (size : ℕ) (ms' : List (List ℕ)) (size' : ℕ) (taken : Bool) : Type 0 where
+pub record Offers (c : List ℕ) (e : Edge) (n : ℕ) (list : List ℕ) (lo hi i : ℕ) (already : Bool) (ms : List Reach) (size : ℕ) (ms' : List Reach) (size' : ℕ) (taken : Bool) : Type 0 where
   pub room : size' ≤ 64
   pub sit : AllSit c e n list lo hi ms' size'
   pub lead : (p : Row → Bool) → AllLead c e n list p ms' size' → AllLead c e n list p ms size
@@ -44,7 +45,7 @@ taken_at ts j = get_or ts j false
 
 -- of the rows from lo to before hi that are not taken some are chosen: all before the next one are taken then; what passes from the chosen rows passes from
 -- all that are newly taken
-pub record Chooses (c : List ℕ) (e : Edge) (n : ℕ) (list : List ℕ) (lo hi : ℕ) (ts ts' : List Bool) (ms : List (List ℕ)) (size next : ℕ) : Type 0 where
+pub record Chooses (c : List ℕ) (e : Edge) (n : ℕ) (list : List ℕ) (lo hi : ℕ) (ts ts' : List Bool) (ms : List Reach) (size next : ℕ) : Type 0 where
   pub sit : AllSit c e n list lo hi ms size
   pub room : size ≤ 64
   pub later : lo < hi → lo < next

@@ -7,18 +7,19 @@ ghost use Rattle.listed_rows.specs.Listed.{listed_row, Listed};
 ghost use Rattle.skylines.specs.Reach.{ReachOf};
 ghost use Rattle.selection.specs.Chosen.{Offered, AllHeld, Lodges, Groups};
 
+use crate::choosing::reach_at;
 use listed_rows::listed::row_at;
 use regions::comparison;
-use regions::edge::{Action, Edge};
+use regions::edge::{Action, Edge, Update};
 use regions::region::Clocks;
-use skylines::reach::{is_within, reach_of};
+use skylines::reach::{Reach, is_within, reach_of};
 
 // Whether an update asks for one value of another clock, or of its own.
-fn asks_for_one(a: Action, comparison: u8) -> bool {
-    match a {
+fn asks_for_one(u: Update) -> bool {
+    match u.action {
         Action::Keep => true,
         Action::Constant(_) => false,
-        Action::Clock(_, _, _) => comparison::is_at_alone(comparison),
+        Action::Clock(..) => comparison::is_at_alone(u.comparison),
     }
 }
 
@@ -29,35 +30,26 @@ pub fn has_groups(clocks: Clocks, e: Edge) -> bool
 {
     let n = clocks.count as usize;
     let mut asked = false;
-    let mut z = 0;
-    while z < n {
-        let update = e.updates[z];
-        let action = update.action;
-        if asks_for_one(action, update.comparison) {
-            if asked {
-                return true;
-            }
-            if 3 < clocks.bounds[z] {
+    for (u, bound) in e.updates[..n].iter().zip(&clocks.bounds) {
+        if asks_for_one(*u) {
+            if asked || 3 < *bound {
                 return true;
             }
             asked = true;
         }
-        z += 1;
     }
     false
 }
 
 // The first slot of a reach: a number for the ends that it asks to be the same. Two groups may come to have slots in common; any slot would be right.
-fn slot(reach: [u32; 9]) -> usize
+fn slot(reach: Reach) -> usize
     ensures { result < 1024 }
 {
     let mut sum = 0;
-    let mut z = 0;
-    while z < 4 {
-        if reach[z] == reach[4 + z] {
-            sum = (167 * sum + reach[z] % 4096) % 1024;
+    for (low, high) in reach.lows.iter().zip(&reach.highs) {
+        if low == high {
+            sum = (167 * sum + *low % 4096) % 1024;
         }
-        z += 1;
     }
     sum as usize
 }
@@ -70,7 +62,7 @@ fn lodge_in(
     count: usize,
     e: Edge,
     i: usize,
-    own: [u32; 9],
+    own: Reach,
     slots: &mut [u16],
     k: usize,
 ) -> bool
@@ -123,21 +115,14 @@ fn lodge(
     if already {
         return true;
     }
-    let n = clocks.count as usize;
-    let row = row_at(list, n, i);
-    if !row.guards_hold(clocks, e) {
-        return true;
-    }
-    let own = reach_of(clocks, e, row, i as u32);
-    let first = slot(own);
-    let mut d = 0;
-    while d < 2 {
-        if lodge_in(list, clocks, count, e, i, own, slots, (first + d) % 1024) {
-            return true;
+    match reach_at(list, clocks, count, e, i) {
+        Some(own) => {
+            let first = slot(own);
+            lodge_in(list, clocks, count, e, i, own, slots, first)
+                || lodge_in(list, clocks, count, e, i, own, slots, (first + 1) % 1024)
         }
-        d += 1;
+        None => true,
     }
-    false
 }
 
 // Offers the rows from start to before end that are not taken, one after the other. The edge leads no further from any that is taken then, and was not
@@ -162,9 +147,7 @@ pub fn lodge_all(
     requires all_held { AllHeld (edge_of clocks.count e) clocks.count list.now start end slots.old }
     ensures { Groups (bounds_of clocks) (edge_of clocks.count e) clocks.count list.now start end taken.old taken.new slots.old slots.new }
 {
-    let mut i = start;
-    while i < end {
+    for i in start..end {
         taken[i] = lodge(list, clocks, count, e, i, taken[i], slots);
-        i += 1;
     }
 }

@@ -4,6 +4,7 @@ use Rattle.std.specs.Prelude.{ℕ, ◌+◌, ◌*◌, ◌-◌, ◌<◌, ◌≡◌
 use Rattle.automata.specs.Comparison.{answer}
 use Rattle.automata.specs.Clocks.{at, allb}
 use Rattle.automata.specs.Row.{Row}
+use Rattle.skylines.specs.declared.reach.Reach.{Reach}
 use Rattle.automata.specs.Edge.{Action, keep, constant, clock, idle, Edge}
 
 -- a place among a clock's values ------------------------------------------------------------------------------------------------
@@ -55,12 +56,12 @@ high_at c e r z = high_end c r z (get_or e.updates z idle).comparison (get_or e.
 
 -- reaches -----------------------------------------------------------------------------------------------------------------------
 
--- nine numbers: four lower ends, four upper ends, of which the first ones are the clocks', and the number of the row among others
-pub record ReachOf (c : List ℕ) (e : Edge) (r : Row) (i : ℕ) (m : List ℕ) : Type 0 where
-  pub low : (z : ℕ) → z < length c → at m z ≡ low_at c e r z
-  pub high : (z : ℕ) → z < length c → at m (4 + z) ≡ high_at c e r z
-  pub number : at m 8 ≡ i
+-- four lower ends, four upper ends, of which the first ones are the clocks', and the number of the row among others
+pub record ReachOf (c : List ℕ) (e : Edge) (r : Row) (i : ℕ) (m : Reach) : Type 0 where
+  pub low : (z : ℕ) → z < length c → at m.lows z ≡ low_at c e r z
+  pub high : (z : ℕ) → z < length c → at m.highs z ≡ high_at c e r z
+  pub number : m.row ≡ i
 
 -- the ends of n clocks lie within those of another reach
-unfoldable pub withinb : ℕ → List ℕ → List ℕ → Bool
-withinb n a b = allb n (λ (z : ℕ). leb (at b z) (at a z) && leb (at a (4 + z)) (at b (4 + z)))
+unfoldable pub withinb : ℕ → Reach → Reach → Bool
+withinb n a b = allb n (λ (z : ℕ). leb (at b.lows z) (at a.lows z) && leb (at a.highs z) (at b.highs z))

@@ -10,11 +10,7 @@ use regions::region::Clocks;
 fn is_constant(a: Action) -> bool
     ensures { result ≡ constantb (action_of a) }
 {
-    match a {
-        Action::Keep => false,
-        Action::Constant(_) => true,
-        Action::Clock(_, _, _) => false,
-    }
+    matches!(a, Action::Constant(_))
 }
 
 // Whether an edge reads no clock.
@@ -23,14 +19,5 @@ pub fn reads_none(clocks: Clocks, e: Edge) -> bool
     ensures { result ≡ true → ReadsNone clocks.count (edge_of clocks.count e) }
 {
     let n = clocks.count as usize;
-    let mut z = 0;
-    while z < n {
-        let u = e.updates[z];
-        let action = u.action;
-        if !is_constant(action) {
-            return false;
-        }
-        z += 1;
-    }
-    true
+    e.updates[..n].iter().all(|u| is_constant(u.action))
 }

@@ -9,6 +9,15 @@ use regions::comparison;
 use regions::edge::{Action, Edge};
 use regions::region::{Clocks, Region};
 
+// How far an edge leads from a row: the lower and the upper ends of what its updates allow, of which the first ones are the clocks', and the row's number
+// among others.
+#[derive(Clone, Copy, Default)]
+pub struct Reach {
+    pub lows: [u32; 4],
+    pub highs: [u32; 4],
+    pub row: u32,
+}
+
 // The ends of what one update allows.
 #[derive(Clone, Copy)]
 struct Ends {
@@ -20,51 +29,49 @@ struct Ends {
 fn is_under(interval: u16, up: u16, down: u16) -> bool
     ensures { result ≡ underb interval up down }
 {
-    (interval as u32) + 2 * (up as u32) < 2 * (down as u32)
+    u32::from(interval) + 2 * u32::from(up) < 2 * u32::from(down)
 }
 
 // Whether it is at the top of a clock with this bound, or past that.
 fn is_over(bound: u16, interval: u16, up: u16, down: u16) -> bool
     ensures { result ≡ overb bound interval up down }
 {
-    2 * (bound as u32) + 1 + 2 * (down as u32) <= (interval as u32) + 2 * (up as u32)
+    2 * u32::from(bound) + 1 + 2 * u32::from(down) <= u32::from(interval) + 2 * u32::from(up)
 }
 
 // Its place among the values of a clock with this bound: a rank is below 5. All that is below them has one place, and all that is at the top or past it
 // another: no new value tells such apart.
+#[tactic(auto, unfolding(crate::specs::Reach::place))]
 fn place(bound: u16, interval: u16, rank: u8, up: u16, down: u16) -> u32
     ensures { result ≡ place bound interval rank up down }
 {
     if is_under(interval, up, down) {
-        return 0;
+        0
+    } else if is_over(bound, interval, up, down) {
+        5 * (2 * u32::from(bound) + 2)
+    } else {
+        5 * (u32::from(interval) + 2 * u32::from(up) - 2 * u32::from(down) + 1) + u32::from(rank)
     }
-    if is_over(bound, interval, up, down) {
-        return 5 * (2 * (bound as u32) + 2);
-    }
-    5 * ((interval as u32) + 2 * (up as u32) - 2 * (down as u32) + 1) + (rank as u32)
 }
 
 // The ends at a place: none on a side that is allowed, if the other is not.
+#[tactic(auto, unfolding(crate::specs::Reach::downb, crate::specs::Reach::upb))]
 fn ends_at(comparison: u8, place: u32) -> Ends
     ensures low { result.low ≡ cond (downb comparison) 0 place }
     ensures high { result.high ≡ cond (upb comparison) 0 place }
 {
     let answers = comparison::answers_of(comparison);
-    if answers.above == answers.below {
-        return Ends {
-            low: place,
-            high: place,
-        };
-    }
-    if answers.above {
-        return Ends {
-            low: place,
-            high: 0,
-        };
-    }
     Ends {
-        low: 0,
-        high: place,
+        low: if answers.below && !answers.above {
+            0
+        } else {
+            place
+        },
+        high: if answers.above && !answers.below {
+            0
+        } else {
+            place
+        },
     }
 }
 
@@ -97,43 +104,33 @@ fn update_ends(clocks: Clocks, a: Action, comparison: u8, z: usize, from: Region
     }
 }
 
-// How far an edge leads from a region that is row i of some. Nine plain numbers, since only such can be lent: four lower ends, four upper ends, the row's
-// number.
-pub fn reach_of(clocks: Clocks, e: Edge, from: Region, i: u32) -> [u32; 9]
+// How far an edge leads from a region that is row i of some.
+pub fn reach_of(clocks: Clocks, e: Edge, from: Region, i: u32) -> Reach
     requires few { Few clocks }
     requires clocks_len { length (bounds_of clocks) ≡ clocks.count }
     requires bounded { Bounded (bounds_of clocks) (edge_of clocks.count e) }
     ensures { ReachOf (bounds_of clocks) (edge_of clocks.count e) (row_of clocks.count from) i result }
 {
     let n = clocks.count as usize;
-    let mut reach = [0; 9];
-    reach[8] = i;
-    let mut z = 0;
-    while z < n {
+    let mut lows = [0; 4];
+    let mut highs = [0; 4];
+    for z in 0..n {
         let u = e.updates[z];
-        let a = u.action;
-        let ends = update_ends(clocks, a, u.comparison, z, from);
-        reach[z] = ends.low;
-        reach[4 + z] = ends.high;
-        z += 1;
+        let ends = update_ends(clocks, u.action, u.comparison, z, from);
+        lows[z] = ends.low;
+        highs[z] = ends.high;
     }
-    reach
+    Reach {
+        lows,
+        highs,
+        row: i,
+    }
 }
 
 // Whether the ends of each of n clocks lie within those of another reach.
-pub fn is_within(n: usize, a: [u32; 9], b: [u32; 9]) -> bool
+pub fn is_within(n: usize, a: Reach, b: Reach) -> bool
     requires { n ≤ 4 }
     ensures { result ≡ withinb n a b }
 {
-    let mut z = 0;
-    while z < n {
-        if a[z] < b[z] {
-            return false;
-        }
-        if b[4 + z] < a[4 + z] {
-            return false;
-        }
-        z += 1;
-    }
-    true
+    (0..n).all(|z| b.lows[z] <= a.lows[z] && a.highs[z] <= b.highs[z])
 }

@@ -1,62 +1,61 @@
 // An edge that asks for any value but one, as edges that ask for less or for more. Such an edge leads where these lead, one for each way to choose, and
 // what each of them allows has no gap.
-ghost use Rattle.std.specs.Prelude.{◌≡◌, ◌||◌, not, ◌≤◌};
+ghost use Rattle.std.specs.Prelude.{◌≡◌, ◌≤◌, ◌<◌};
 ghost use Rattle.automata.specs.Comparison.{sides_alone};
 ghost use Rattle.regions.specs.Values.{update_of, edge_of};
-ghost use Rattle.skylines.specs.Sides.{two_sided, sided_update, sided, is_choice};
+ghost use Rattle.skylines.specs.Sides.{bit, two_sided, sided_update, sided, may_choose, is_choice};
 
 use regions::comparison;
 use regions::edge::{Action, Edge, Update};
 use regions::region::Clocks;
 
 // Whether a comparison allows what is below and what is above, and not what is at.
+#[tactic(auto, unfolding(automata::specs::Comparison::sides_alone))]
 fn has_two_sides(comparison: u8) -> bool
     ensures { result ≡ sides_alone comparison }
 {
     let answers = comparison::answers_of(comparison);
-    if !answers.below {
-        return false;
-    }
-    if !answers.above {
-        return false;
-    }
-    !answers.at
+    answers.below && answers.above && !answers.at
 }
 
 // Whether an update asks for any value but that of a clock plus an offset.
 fn is_two_sided(u: Update) -> bool
     ensures { result ≡ two_sided (update_of u) }
 {
-    let action = u.action;
-    match action {
-        Action::Keep => false,
-        Action::Constant(_) => false,
-        Action::Clock(_, _, _) => has_two_sides(u.comparison),
-    }
+    matches!(u.action, Action::Clock(..)) && has_two_sides(u.comparison)
 }
 
 // Such an update by the side above, if that is chosen, else by the one below; any other as it is.
+#[tactic(auto, unfolding(crate::specs::Sides::sided_update))]
 fn sided_update(u: Update, up: bool) -> Update
     ensures { update_of result ≡ sided_update (update_of u) up }
 {
-    if !is_two_sided(u) {
-        return u;
-    }
-    let action = u.action;
-    Update {
-        action,
-        comparison: comparison::one_side(up),
+    if is_two_sided(u) {
+        Update {
+            comparison: comparison::one_side(up),
+            ..u
+        }
+    } else {
+        u
     }
 }
 
-// Whether a side may be chosen: the one above is a choice only where there are two.
-fn may_choose(u: Update, up: bool) -> bool
-    ensures { result ≡ (not up || two_sided (update_of u)) }
+// Whether k chooses the side above for clock z.
+#[tactic(auto, using(crate::proofs::Laws::Sides::halved_is))]
+fn is_above(k: u8, z: usize) -> bool
+    requires { z < 8 }
+    ensures { result ≡ bit k z }
 {
-    if !up {
-        return true;
-    }
-    is_two_sided(u)
+    (k >> z) % 2 == 1
+}
+
+// Whether the side that k chooses for clock z may be chosen: the one above is a choice only where there are two.
+fn may_choose(clocks: Clocks, e: Edge, k: u8, z: usize) -> bool
+    requires few { clocks.count ≤ 4 }
+    requires z_lt_count { z < clocks.count }
+    ensures { result ≡ may_choose (edge_of clocks.count e) k z }
+{
+    !is_above(k, z) || is_two_sided(e.updates[z])
 }
 
 // Whether k chooses among the sides of an edge, one bit a clock, the lowest for the first: a bit that is set says above. All edges by the sides that the
@@ -66,17 +65,7 @@ pub fn is_choice(clocks: Clocks, e: Edge, k: u8) -> bool
     ensures { result ≡ is_choice clocks.count (edge_of clocks.count e) k }
 {
     let n = clocks.count as usize;
-    let mut rest = k;
-    let mut z = 0;
-    while z < n {
-        let u = e.updates[z];
-        if !may_choose(u, rest % 2 == 1) {
-            return false;
-        }
-        rest = rest / 2;
-        z += 1;
-    }
-    rest == 0
+    (0..n).all(|z| may_choose(clocks, e, k, z)) && k >> n == 0
 }
 
 // The edge by the sides that k chooses.
@@ -86,22 +75,9 @@ pub fn with_sides(clocks: Clocks, e: Edge, k: u8) -> Edge
     ensures few { result.guard_count ≡ e.guard_count }
 {
     let n = clocks.count as usize;
-    let guards = e.guards;
     let mut updates = e.updates;
-    let mut rest = k;
-    let mut z = 0;
-    while z < n {
-        let u = e.updates[z];
-        let side = sided_update(u, rest % 2 == 1);
-        updates[z] = side;
-        rest = rest / 2;
-        z += 1;
+    for z in 0..n {
+        updates[z] = sided_update(e.updates[z], is_above(k, z));
     }
-    Edge {
-        source: e.source,
-        target: e.target,
-        guard_count: e.guard_count,
-        guards,
-        updates,
-    }
+    Edge { updates, ..e }
 }

@@ -16,8 +16,7 @@ pub fn write_counted(out: &mut [u8], word: &[u8], n: u16) -> usize
 {
     let at = write_word(out, word);
     out[at] = b' ';
-    let digits = write_decimal(&mut out[at + 1..], n);
-    at + 1 + digits
+    at + 1 + write_decimal(&mut out[at + 1..], n)
 }
 
 // Writes the line of a refusal, without its newline.
@@ -27,6 +26,6 @@ pub fn write_refused(out: &mut [u8], number: u8, place: u16) -> usize
     ensures length { result ≡ length (ascii (printed "REFUSED" (refused number place))) }
     ensures text { out.new ≡ ascii (printed "REFUSED" (refused number place)) ++ drop result out.old }
 {
-    let end = write_counted(out, b"REFUSED", number as u16);
+    let end = write_counted(out, b"REFUSED", u16::from(number));
     end + write_counted(&mut out[end..], b"", place)
 }

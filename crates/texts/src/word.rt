@@ -7,10 +7,7 @@ pub fn write_word(out: &mut [u8], word: &[u8]) -> usize
     ensures length { result ≡ length word.now }
     ensures text { out.new ≡ word.now ++ drop (length word.now) out.old }
 {
-    let mut z = 0;
-    while z < word.len() {
-        out[z] = word[z];
-        z += 1;
-    }
-    z
+    let n = word.len();
+    out[..n].copy_from_slice(word);
+    n
 }

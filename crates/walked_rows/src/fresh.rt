@@ -38,17 +38,11 @@ pub fn open_alike(
     ensures { SomeOpen (Inside (edge_rows (bounds_of clocks) (edge_of clocks.count e)) clocks.count list.now count) start end result }
 {
     let i = first_guarded(list, clocks, count, e, start, end);
-    if end <= i {
-        return end;
+    if end <= i || old[i] || leads_from(list, clocks, count, e, into, i, 2 * count).is_ok() {
+        end
+    } else {
+        i
     }
-    if old[i] {
-        return end;
-    }
-    let found = leads_from(list, clocks, count, e, into, i, 2 * count);
-    if found.listed {
-        return end;
-    }
-    i
 }
 
 // A row from start to before end, all in the edge's source, from which it leads out of the list, or end. It is known to lead into it from the old ones.
@@ -72,15 +66,5 @@ pub fn some_open(
         return open_alike(list, clocks, count, e, into, start, end, old);
     }
     let mut taken = [false; 4096];
-    open_by_sides(
-        list,
-        clocks,
-        count,
-        e,
-        into,
-        start,
-        end,
-        old,
-        &mut taken[..],
-    )
+    open_by_sides(list, clocks, count, e, into, start, end, old, &mut taken)
 }

@@ -19,11 +19,7 @@ fn take_old(old: &[bool], start: usize, end: usize, taken: &mut [bool])
     requires taken_len { length taken.old ≡ 4096 }
     ensures { SameTaken start end old.now taken.new }
 {
-    let mut i = start;
-    while i < end {
-        taken[i] = old[i];
-        i += 1;
-    }
+    taken[start..end].copy_from_slice(&old[start..end]);
 }
 
 // A row from start to before end from which the edge leads out of the list, or end. Where it asks for any value but a clock's, it is taken by its sides, one
@@ -48,8 +44,7 @@ pub fn open_by_sides(
     requires taken_len { length taken.old ≡ 4096 }
     ensures { SomeOpen (Inside (edge_rows (bounds_of clocks) (edge_of clocks.count e)) clocks.count list.now count) start end result }
 {
-    let mut k: u8 = 0;
-    while k < 16 {
+    for k in 0..16 {
         if is_choice(clocks, e, k) {
             let side = with_sides(clocks, e, k);
             take_old(old, start, end, taken);
@@ -58,7 +53,6 @@ pub fn open_by_sides(
                 return open;
             }
         }
-        k += 1;
     }
     end
 }

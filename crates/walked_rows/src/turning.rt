@@ -12,6 +12,7 @@ use regions::edge::Edge;
 use regions::region::Clocks;
 use selection::choosing::choose;
 use selection::grouping::{has_groups, lodge_all};
+use skylines::skyline::Skyline;
 
 // A row from start to before end from which the edge leads out of the list, or end: of rows that are not taken one or two of each group are walked from, as
 // far as groups find slots. Then all rows are taken that one of these covers.
@@ -61,8 +62,7 @@ pub fn open_among(
     requires taken_inside { TakenInside (bounds_of clocks) (edge_of clocks.count e) clocks.count list.now count start end taken.old }
     ensures { SomeOpen (Inside (edge_rows (bounds_of clocks) (edge_of clocks.count e)) clocks.count list.now count) start end result }
 {
-    let none = [0; 9];
-    let mut members = [none; 64];
+    let mut skyline = Skyline::new();
     let mut from = start;
     while from < end {
         let held = open_in_groups(list, clocks, count, e, into, from, end, taken);
@@ -74,12 +74,12 @@ pub fn open_among(
         if again < end {
             return again;
         }
-        let chosen = choose(list, clocks, count, e, from, end, taken, &mut members[..]);
-        let open = least_chosen(list, clocks, count, e, into, &members[..], chosen.size, end);
+        let next = choose(list, clocks, count, e, from, end, taken, &mut skyline);
+        let open = least_chosen(list, clocks, count, e, into, &skyline, end);
         if open < end {
             return open;
         }
-        from = chosen.next;
+        from = next;
     }
     end
 }
@@ -100,5 +100,5 @@ pub fn open_by_walks(
     ensures { SomeOpen (Inside (edge_rows (bounds_of clocks) (edge_of clocks.count e)) clocks.count list.now count) start end result }
 {
     let mut taken = [false; 4096];
-    open_among(list, clocks, count, e, into, start, end, &mut taken[..])
+    open_among(list, clocks, count, e, into, start, end, &mut taken)
 }

@@ -1,5 +1,5 @@
 // Walks from rows of a region list that were chosen, by an edge that may lead to many regions: the least of them from which it leads out of the list.
-ghost use Rattle.std.specs.Prelude.{◌≡◌, ℕ, suc, ◌≤◌, length};
+ghost use Rattle.std.specs.Prelude.{◌≡◌, ℕ, suc, ◌≤◌, length, is_ok};
 ghost use Rattle.automata.specs.Clocks.{at};
 ghost use Rattle.automata.specs.Successors.{edge_rows};
 ghost use Rattle.automata.specs.Checks.{every, has};
@@ -12,9 +12,10 @@ ghost use Rattle.walked_rows.specs.Open.{Inside, Lowers, LeastOf};
 ghost use Rattle.walked_rows.specs.Leading.{Suited};
 
 use inclusion::inside::leads_inside;
-use listed_rows::listed::{Found, Span, row_at};
+use listed_rows::listed::{Span, row_at};
 use regions::edge::Edge;
 use regions::region::Clocks;
+use skylines::skyline::Skyline;
 
 // The least row found so far from which the edge leads out of the list, and where a row was looked up last.
 #[derive(Clone, Copy)]
@@ -32,11 +33,11 @@ pub fn leads_from(
     into: Span,
     i: usize,
     hint: usize,
-) -> Found
+) -> Result<usize, usize>
     requires suited { Suited clocks list.now count e }
     requires rows_in { RowsIn clocks.count list.now count e.target into.start into.end }
     requires offered { Offered (edge_of clocks.count e) clocks.count list.now 0 count i }
-    ensures { result.listed ≡ every (has (listed_rows clocks.count list.now count)) (edge_rows (bounds_of clocks) (edge_of clocks.count e) (listed_row clocks.count list.now i)) }
+    ensures { is_ok result ≡ every (has (listed_rows clocks.count list.now count)) (edge_rows (bounds_of clocks) (edge_of clocks.count e) (listed_row clocks.count list.now i)) }
 {
     let row = row_at(list, clocks.count as usize, i);
     leads_inside(list, clocks, count, e, row, into, hint)
@@ -60,16 +61,12 @@ fn look_from(
     if least.row <= i {
         return least;
     }
-    let found = leads_from(list, clocks, count, e, into, i, least.hint);
-    if found.listed {
-        return Least {
+    match leads_from(list, clocks, count, e, into, i, least.hint) {
+        Ok(hint) => Least {
             row: least.row,
-            hint: found.at,
-        };
-    }
-    Least {
-        row: i,
-        hint: found.at,
+            hint,
+        },
+        Err(hint) => Least { row: i, hint },
     }
 }
 
@@ -80,25 +77,20 @@ pub fn least_chosen(
     count: usize,
     e: Edge,
     into: Span,
-    members: &[[u32; 9]],
-    size: usize,
+    skyline: &Skyline,
     end: usize,
 ) -> usize
     requires suited { Suited clocks list.now count e }
     requires rows_in { RowsIn clocks.count list.now count e.target into.start into.end }
-    requires size_in_bounds { size ≤ length members.now }
-    requires all_sit { AllSit (bounds_of clocks) (edge_of clocks.count e) clocks.count list.now 0 count members.now size }
-    ensures { LeastOf (Inside (edge_rows (bounds_of clocks) (edge_of clocks.count e)) clocks.count list.now count) (λ k j. at (member members.now k) 8 ≡ j) size end result }
+    requires all_sit { AllSit (bounds_of clocks) (edge_of clocks.count e) clocks.count list.now 0 count skyline.now.members skyline.now.size }
+    ensures { LeastOf (Inside (edge_rows (bounds_of clocks) (edge_of clocks.count e)) clocks.count list.now count) (λ k j. (member skyline.now.members k).row ≡ j) skyline.now.size end result }
 {
     let mut least = Least {
         row: end,
         hint: 2 * count,
     };
-    let mut k = 0;
-    while k < size {
-        let member = members[k];
-        least = look_from(list, clocks, count, e, into, member[8] as usize, least);
-        k += 1;
+    for reach in &skyline.members[..skyline.size] {
+        least = look_from(list, clocks, count, e, into, reach.row as usize, least);
     }
     least.row
 }
@@ -123,13 +115,10 @@ pub fn least_held(
         row: end,
         hint: 2 * count,
     };
-    let mut k = 0;
-    while k < 1024 {
-        let holder = slots[k];
-        if holder != 0 {
-            least = look_from(list, clocks, count, e, into, (holder - 1) as usize, least);
+    for holder in slots {
+        if *holder != 0 {
+            least = look_from(list, clocks, count, e, into, (*holder - 1) as usize, least);
         }
-        k += 1;
     }
     least.row
 }

@@ -1,58 +1,69 @@
 // The kinds of a clock's intervals: which rankings a move allows turns on the kinds of the intervals alone. Intervals are counted by the stretches of them
 // of which the same is known, at most four, however many intervals there are.
 ghost use Rattle.std.specs.Prelude.{◌≡◌, cond, ℕ, ◌+◌, ◌-◌, ◌/◌, ◌≤◌, ◌<◌, eqb};
-ghost use Rattle.way_counts.specs.Kinds.{kind, of_kind};
+ghost use Rattle.way_counts.specs.Kinds.{kind, number, number_found, of_kind};
 
 use regions::clock_move::Move;
 
-// The kind of a new interval: 0 where its rank is 0, 1 where it is open and the order is that of the fractional parts, 2 where it is open and allowed
-// whatever its rank, 3 where it is not allowed at all.
-fn kind(asked: Move, interval: u16) -> u8
-    ensures { result ≡ kind asked interval }
-{
-    if asked.top < interval {
-        return 3;
-    }
-    if !asked.permits(interval) {
-        return 3;
-    }
-    if interval == asked.top {
-        return 0;
-    }
-    if interval % 2 == 0 {
-        return 0;
-    }
-    if asked.is_by_parts(interval) {
-        return 1;
-    }
-    2
+// The kind of an interval that is allowed: its rank is 0, or it is open and the order is that of the fractional parts, or it is open and allowed whatever
+// its rank.
+#[derive(Clone, Copy, PartialEq, Eq)]
+pub enum Kind {
+    Shut,
+    Parted,
+    Loose,
 }
 
-// So many, if they are of the kind.
-fn if_alike(found: u8, wanted: u8, many: u16) -> u16
-    ensures { result ≡ cond (eqb found wanted) many 0 }
+// The kinds in the order of their numbers.
+pub const KINDS: [Kind; 3] = [Kind::Shut, Kind::Parted, Kind::Loose];
+
+// The kind of a new interval, or none where it is not allowed at all.
+#[tactic(auto, using(crate::proofs::Laws::Kinds::kind_above, crate::proofs::Laws::Kinds::kind_none, crate::proofs::Laws::Kinds::kind_shut, crate::proofs::Laws::Kinds::kind_parts, crate::proofs::Laws::Kinds::kind_loose))]
+fn kind_of(asked: Move, interval: u16) -> Option<Kind>
+    ensures { number_found result ≡ kind asked interval }
 {
-    if found != wanted {
-        return 0;
+    if asked.top < interval || !asked.permits(interval) {
+        None
+    } else if interval == asked.top || interval % 2 == 0 {
+        Some(Kind::Shut)
+    } else if asked.is_by_parts(interval) {
+        Some(Kind::Parted)
+    } else {
+        Some(Kind::Loose)
     }
-    many
+}
+
+// Whether an interval is of the kind.
+fn is_of(asked: Move, interval: u16, wanted: Kind) -> bool
+    ensures { result ≡ eqb (kind asked interval) (number wanted) }
+{
+    kind_of(asked, interval) == Some(wanted)
 }
 
 // How many intervals of a stretch are of the kind: every second one is like the first, and the others are like the second.
-fn in_stretch(asked: Move, wanted: u8, from: u16, end: u16) -> u16
+fn in_stretch(asked: Move, wanted: Kind, from: u16, end: u16) -> u16
     requires { (from < end) × (end ≤ 32768) }
-    ensures { result ≡ cond (eqb (kind asked from) wanted) ((end - from + 1) / 2) 0 + cond (eqb (kind asked (from + 1)) wanted) ((end - from) / 2) 0 }
+    ensures { result ≡ cond (eqb (kind asked from) (number wanted)) ((end - from + 1) / 2) 0 + cond (eqb (kind asked (from + 1)) (number wanted)) ((end - from) / 2) 0 }
 {
     let many = end - from;
-    let first = if_alike(kind(asked, from), wanted, (many + 1) / 2);
-    let second = if_alike(kind(asked, from + 1), wanted, many / 2);
+    let first = if is_of(asked, from, wanted) {
+        (many + 1) / 2
+    } else {
+        0
+    };
+    let second = if is_of(asked, from + 1, wanted) {
+        many / 2
+    } else {
+        0
+    };
     first + second
 }
 
 // How many intervals are of the kind.
-pub fn count_of_kind(asked: Move, wanted: u8) -> u16
-    requires { (asked.top ≤ 32767) × (wanted < 3) }
-    ensures { result ≡ of_kind asked wanted (asked.top + 1) }
+#[tactic(auto, using(crate::proofs::Laws::Kinds::stretch_more, crate::proofs::Laws::Kinds::of_kind_le))]
+pub fn count_of_kind(asked: Move, wanted: Kind) -> u16
+    requires { asked.top ≤ 32767 }
+    ensures { result ≡ of_kind asked (number wanted) (asked.top + 1) }
 {
     let mut total = 0;
     let mut interval = 0;
@@ -65,17 +76,18 @@ pub fn count_of_kind(asked: Move, wanted: u8) -> u16
 }
 
 // An interval of the kind, where there is one.
-pub fn one_of_kind(asked: Move, wanted: u8) -> u16
-    requires { (asked.top ≤ 32767) × (wanted < 3) }
+#[tactic(auto, using(crate::proofs::Laws::Kinds::stretch_none, crate::proofs::Laws::Kinds::number_permits))]
+pub fn one_of_kind(asked: Move, wanted: Kind) -> u16
+    requires { asked.top ≤ 32767 }
     ensures within { result ≤ asked.top }
-    ensures alike { (j : ℕ) → j ≤ asked.top → kind asked j ≡ wanted → kind asked result ≡ wanted }
+    ensures alike { (j : ℕ) → j ≤ asked.top → kind asked j ≡ number wanted → kind asked result ≡ number wanted }
 {
     let mut interval = 0;
     while interval <= asked.top {
-        if kind(asked, interval) == wanted {
+        if is_of(asked, interval, wanted) {
             return interval;
         }
-        if kind(asked, interval + 1) == wanted {
+        if is_of(asked, interval + 1, wanted) {
             return interval + 1;
         }
         interval = asked.next_stretch(interval);

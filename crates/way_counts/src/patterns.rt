@@ -7,7 +7,7 @@ ghost use Rattle.rankings.specs.Ranking.{InRange};
 ghost use Rattle.edge_walk.specs.Choice.{Ready};
 ghost use Rattle.way_counts.specs.Patterns.{digit, Counts, FewOfEach, times, samples_of, ways, pattern_rows};
 
-use crate::kinds::{count_of_kind, one_of_kind};
+use crate::kinds::{KINDS, Kind, count_of_kind, one_of_kind};
 use edge_walk::choice::Search;
 use rankings::ranking::{ranked, rankings_of};
 use regions::region::Region;
@@ -31,26 +31,26 @@ pub fn kinds_of(search: Search) -> Kinds
     requires { Ready search }
     ensures { Counts search result }
 {
-    let moves = search.moves;
-    let clocks = search.clocks;
-    let end = 3 * (clocks.count as usize);
     let mut counts = [0; 12];
     let mut samples = [0; 12];
-    let mut i = 0;
-    while i < end {
-        let asked = moves.each[i / 3];
-        let kind = (i % 3) as u8;
+    for i in 0..3 * usize::from(search.clocks.count) {
+        let asked = search.moves.each[i / 3];
+        let kind = KINDS[i % 3];
         counts[i] = count_of_kind(asked, kind);
         samples[i] = one_of_kind(asked, kind);
-        i += 1;
     }
-    Kinds {
-        counts: counts,
-        samples: samples,
-    }
+    Kinds { counts, samples }
 }
 
-// The pattern of a number, whose digits in base 3 are the kinds of the clocks' intervals.
+// The digits of a pattern's number in base 3, clock by clock: each stands for the kind at its place in KINDS.
+fn digits_of(number: usize) -> [usize; 4]
+    ensures digits { (z : ℕ) → z < 4 → at result z ≡ digit number z }
+    ensures low { (z : ℕ) → at result z < 3 }
+{
+    [number % 3, number / 3 % 3, number / 9 % 3, number / 27 % 3]
+}
+
+// The pattern of a number: the clocks' intervals are of the kinds that its digits say.
 fn pattern_of(kinds: Kinds, n: usize, location: u8, number: usize) -> Pattern
     requires n_bound { n ≤ 4 }
     requires few_of_each { FewOfEach n kinds }
@@ -58,25 +58,19 @@ fn pattern_of(kinds: Kinds, n: usize, location: u8, number: usize) -> Pattern
     ensures location { result.part.location ≡ location }
     ensures intervals { (row_of n result.part).intervals ≡ samples_of kinds n number }
 {
+    let digits = digits_of(number);
     let mut part = Region {
-        location: location,
+        location,
         intervals: [0; 4],
         ranks: [0; 4],
     };
     let mut times = 1;
-    let mut digits = number;
-    let mut z = 0;
-    while z < n {
-        let i = 3 * z + digits % 3;
-        times = times * (kinds.counts[i] as usize);
+    for z in 0..n {
+        let i = 3 * z + digits[z];
+        times *= usize::from(kinds.counts[i]);
         part.intervals[z] = kinds.samples[i];
-        digits = digits / 3;
-        z += 1;
     }
-    Pattern {
-        times: times,
-        part: part,
-    }
+    Pattern { times, part }
 }
 
 // Whether no clock's order is that of the fractional parts, so that all rankings are allowed.
@@ -84,16 +78,8 @@ fn is_loose(n: usize, number: usize) -> bool
     requires { n ≤ 4 }
     ensures { result ≡ true → (z : ℕ) → z < n → digit number z ≡ 1 → ⊥ }
 {
-    let mut digits = number;
-    let mut z = 0;
-    while z < n {
-        if digits % 3 == 1 {
-            return false;
-        }
-        digits = digits / 3;
-        z += 1;
-    }
-    true
+    let digits = digits_of(number);
+    (0..n).all(|z| digits[z] != Kind::Parted as usize)
 }
 
 // How many regions with the location and the intervals of the part the moves allow, each of them tried.
@@ -102,37 +88,27 @@ fn allowed_rankings(search: Search, part: Region) -> usize
     requires in_range { InRange search.clocks part }
     ensures { result ≡ ways search part.location (row_of search.clocks.count part).intervals }
 {
-    let clocks = search.clocks;
-    let moves = search.moves;
-    let n = clocks.count as usize;
-    let all = rankings_of(clocks, part);
-    let mut total = 0;
-    let mut j = 0;
-    while j < all {
-        if moves.are_placed(ranked(clocks, part, j), n) {
-            total += 1;
-        }
-        j += 1;
-    }
-    total
+    let n = usize::from(search.clocks.count);
+    (0..rankings_of(search.clocks, part))
+        .filter(|j| search.moves.are_placed(ranked(search.clocks, part, *j), n))
+        .count()
 }
 
 // How many regions of the location the moves allow whose intervals are of the pattern.
+#[tactic(auto, using(crate::proofs::Laws::Loops::rows_none, crate::proofs::Laws::Loops::part_within, crate::proofs::Laws::Loops::rows_fit, crate::proofs::Laws::Loops::rows_are, crate::proofs::Laws::Loops::loose_rankings, crate::proofs::Laws::Loops::tried_ways))]
 pub fn rows_of_pattern(search: Search, kinds: Kinds, location: u8, number: usize) -> usize
     requires ready { Ready search }
     requires counts { Counts search kinds }
     requires few_of_each { FewOfEach search.clocks.count kinds }
     ensures { result ≡ pattern_rows search location kinds number }
 {
-    let clocks = search.clocks;
-    let n = clocks.count as usize;
+    let n = usize::from(search.clocks.count);
     let pattern = pattern_of(kinds, n, location, number);
     if pattern.times == 0 {
         return 0;
     }
-    let part = pattern.part;
     if is_loose(n, number) {
-        return pattern.times * rankings_of(clocks, part);
+        return pattern.times * rankings_of(search.clocks, pattern.part);
     }
-    pattern.times * allowed_rankings(search, part)
+    pattern.times * allowed_rankings(search, pattern.part)
 }

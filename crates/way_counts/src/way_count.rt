@@ -12,6 +12,7 @@ use edge_walk::way::Way;
 const PATTERNS: [usize; 5] = [1, 3, 9, 27, 81];
 
 // How many patterns so many clocks have.
+#[tactic(auto, unfolding(crate::specs::Patterns::patterns))]
 fn pattern_count(n: usize) -> usize
     requires { n ≤ 4 }
     ensures { result ≡ patterns n }
@@ -20,6 +21,7 @@ fn pattern_count(n: usize) -> usize
 }
 
 // How many regions are on the way. No region is visited, nor any interval by itself: bounds up to 127 only see to it that the sum fits.
+#[tactic(auto, using(crate::proofs::Laws::Loops::nowhere))]
 pub fn way_count(way: Way) -> usize
     requires ready { Ready way.search }
     requires by_index { (z : ℕ) → z < way.search.clocks.count → at way.search.clocks.bounds z ≤ 127 }
@@ -28,14 +30,8 @@ pub fn way_count(way: Way) -> usize
     if !way.leads {
         return 0;
     }
-    let search = way.search;
-    let kinds = kinds_of(search);
-    let patterns = pattern_count(search.clocks.count as usize);
-    let mut total = 0;
-    let mut number = 0;
-    while number < patterns {
-        total += rows_of_pattern(search, kinds, way.target, number);
-        number += 1;
-    }
-    total
+    let kinds = kinds_of(way.search);
+    (0..pattern_count(usize::from(way.search.clocks.count)))
+        .map(|number| rows_of_pattern(way.search, kinds, way.target, number))
+        .sum()
 }

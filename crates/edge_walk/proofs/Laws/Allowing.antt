@@ -1,16 +1,15 @@
 -- Whether moves allow a row, as far as the intervals tell. Assumes nothing.
-use Prim.Native.Nat.{ℕ, zero, suc, ◌+◌, ◌*◌, ◌-◌, ◌≤◌, ◌<◌}
-use native.Mathlib.Decide.{ℕ_discrete}
+use Prim.Native.Nat.{ℕ, zero, suc, ◌+◌, ◌*◌, ◌-◌, ◌<◌}
 use native.Mathlib.Omega.{arith}
-use mathlib.Core.Path.{◌≡◌, refl, sym, ◌∙◌}
+use mathlib.Core.Path.{◌≡◌, refl, sym, ap, ◌∙◌}
 use mathlib.Core.Bool.{Bool, true, false, not, ◌||◌}
 use mathlib.Core.List.{List}
 use lib.ListN.{get_or, take}
 use lib.Dec.{eqb}
 use borrow.Author.Tests.{le-leb}
-use Rattle.automata.specs.Clocks.{at, greatest}
+use Rattle.automata.specs.Clocks.{at, allb, someb, greatest}
 use Rattle.automata.specs.Successors.{least}
-use Rattle.automata.proofs.Laws.Tests.{fails, never, allb_law}
+use Rattle.automata.proofs.Laws.Tests.{Says, fails, never, refutes, allb_law, someb_law}
 use Rattle.regions.specs.Move.{fits_at, permitsb}
 use Rattle.regions.specs.Placing.{still, clock_fits_at, rank_fits_at, greedy_at, placed_at}
 use Rattle.regions.specs.declared.clock_move.Move.{Move}
@@ -37,36 +36,21 @@ first_position t g h (suc a) = rw (first_position t g h a) (go (2 * g + 1 - 0) (
     go (suc n) l = rw (h (suc a) 0) refl
 
 module _ (ms : List Move) (g n : ℕ) (js ks : List ℕ) where
-  -- the first z intervals are permitted, and where so many are seen to be by parts, none is
-  pub record AllowsTo (z : ℕ) (by_parts : Bool) : Type 0 where
-    pub within : z ≤ n
-    pub permitted : (w : ℕ) → w < z → permitsb (get_or ms w still) (at js w) ≡ true
-    pub none_by_parts : by_parts ≡ false → (w : ℕ) → w < z → by_partsb (get_or ms w still) (at js w) ≡ false
+  abbrev pub permitted : ℕ → Bool
+  permitted z = permitsb (get_or ms z still) (at js z)
 
-  pub allows_begins : AllowsTo 0 false
-  allows_begins = record { within = omega arith; permitted = λ w l. absurd (omega arith); none_by_parts = λ e w l. absurd (omega arith) }
+  abbrev pub by_parts : ℕ → Bool
+  by_parts z = by_partsb (get_or ms z still) (at js z)
 
-  module _ (z : ℕ) (b : Bool) (A : AllowsTo z b) (l : z < n) (p : permitsb (get_or ms z still) (at js z) ≡ true) where
-    permitted_on : (w : ℕ) → w < z + 1 → permitsb (get_or ms w still) (at js w) ≡ true
-    permitted_on w h = go (ℕ_discrete w z)
-      where
-        go : Dec (w ≡ z) → permitsb (get_or ms w still) (at js w) ≡ true
-        go (yes e) = rw e p
-        go (no e) = A.permitted w (omega arith)
+  all_permitted : Says (allb n permitted) ((z : ℕ) → z < n → permitted z ≡ true)
+  all_permitted = allb_law n permitted (λ z. (λ e. e, λ e. e))
 
-    pub allows_parts : AllowsTo (z + 1) true
-    allows_parts = record { within = omega arith; permitted = permitted_on; none_by_parts = λ e. never (sym e) }
+  some_by_parts : Says (someb n by_parts) ((z : ℕ) × (z < n) × (by_parts z ≡ true))
+  some_by_parts = someb_law n by_parts (λ z. (λ e. e, λ e. e))
 
-    pub allows_on : by_partsb (get_or ms z still) (at js z) ≡ false → AllowsTo (z + 1) b
-    allows_on q = record { within = omega arith; permitted = permitted_on; none_by_parts = λ e w h. go e w h (ℕ_discrete w z) }
-      where
-        go : b ≡ false → (w : ℕ) → w < z + 1 → Dec (w ≡ z) → by_partsb (get_or ms w still) (at js w) ≡ false
-        go e w h (yes d) = rw d q
-        go e w h (no d) = A.none_by_parts e w (omega arith)
-
-  pub allows_free : (z : ℕ) → AllowsTo z false → n ≤ z → placed_at ms g n js ks ≡ true
+  placed_free : allb n permitted ≡ true → someb n by_parts ≡ false → placed_at ms g n js ks ≡ true
   unfolding placed_at rank_fits_at
-  allows_free z A l = rw (fit 0 0, first_position (rank_fits_at ms n js ks) g fit (greatest (take n ks))) (le-leb 0 (2 * g) (omega arith))
+  placed_free t f = rw (fit 0 0, first_position (rank_fits_at ms n js ks) g fit (greatest (take n ks))) (le-leb 0 (2 * g) (omega arith))
     where
       either : (b f : Bool) → f ≡ true → (b || f) ≡ true
       either true f h = refl
@@ -75,10 +59,7 @@ module _ (ms : List Move) (g n : ℕ) (js ks : List ℕ) where
       fit : (a p : ℕ) → rank_fits_at ms n js ks a p ≡ true
       fit a p =
           (allb_law n (clock_fits_at ms js ks a p) (λ z. (λ e. e, λ e. e))).1
-          (λ w h. either (not (eqb (at ks w) a)) _ (fits_anywhere (get_or ms w still) (at js w) p (A.none_by_parts refl w (omega arith)) (A.permitted w (omega arith))))
-
-  pub allows_not : (z : ℕ) → z < n → permitsb (get_or ms z still) (at js z) ≡ false → placed_at ms g n js ks ≡ false
-  allows_not z l h = fails (placed_at ms g n js ks) (λ e. e, λ e. e) (λ e. never (sym h ∙ placed_permits ms g n js ks e z l))
+          (λ w h. either (not (eqb (at ks w) a)) _ (fits_anywhere (get_or ms w still) (at js w) p (fails (by_parts w) (λ e. e, λ e. e) (λ e. refutes (someb n by_parts) some_by_parts f (w, h, e))) (all_permitted.0 t w h)))
 
   -- the first n numbers alone are looked at
   pub placed_first : placed_at ms g n js ks ≡ placed_at ms g n (take n js) (take n ks)
@@ -90,3 +71,11 @@ module _ (ms : List Move) (g n : ℕ) (js ks : List ℕ) where
       alike true b f h = sym (f refl)
       alike false true f h = h refl
       alike false false f h = refl
+
+  -- the answer: not allowed where an interval is not permitted, allowed where none goes by the parts, else as the ranks have positions
+  pub allows_not : (a : Bool) → a ≡ allb n permitted → a ≡ false → a ≡ placed_at ms g n (take n js) (take n ks)
+  allows_not a e f =
+      f ∙ sym (sym placed_first ∙ fails (placed_at ms g n js ks) (λ e. e, λ e. e) (λ t. never (sym f ∙ e ∙ all_permitted.1 (λ z l. placed_permits ms g n js ks t z l))))
+
+  pub allows_free : (a b : Bool) → a ≡ allb n permitted → a ≡ true → b ≡ someb n by_parts → b ≡ false → not b ≡ placed_at ms g n (take n js) (take n ks)
+  allows_free a b e t d f = ap not f ∙ sym (sym placed_first ∙ placed_free (sym e ∙ t) (sym d ∙ f))

@@ -7,11 +7,11 @@ use mathlib.Core.Bool.{Bool, true, false, ◌&&◌}
 use mathlib.Core.Option.{Option, none, some}
 use mathlib.Core.Logic.{◌⊎◌, inl, inr}
 use mathlib.Core.List.Memᴰ
-use mathlib.Core.List.{List, [], ◌∷◌, ◌++◌, append-nil}
-use lib.ListN.{length, drop, length-append}
+use mathlib.Core.List.{List, [], ◌∷◌}
+use lib.ListN.{length, length-append}
 use lib.Dec.{eqb, leb}
 use lib.Seq.{get_or-take, length-take-le}
-use borrow.Author.Tests.{le-leb, lt-leb}
+use borrow.Author.Tests.{lt-leb}
 use Rattle.automata.specs.Clocks.{at}
 use Rattle.automata.specs.Row.{Row, IsRow}
 use Rattle.automata.specs.Closed.{Mem}
@@ -25,13 +25,13 @@ use Rattle.regions.specs.declared.region.Clocks as clocks_code
 use Rattle.regions.specs.declared.region.Region.{Region}
 use Rattle.regions.specs.declared.region.Sought.{Sought}
 use Rattle.regions.specs.declared.edge.Edge as edge_code
-use Rattle.automata.proofs.Laws.Tests.{never, true_or_false, eqb_law, leb_law, and_law, says, same_test}
+use Rattle.automata.proofs.Laws.Tests.{never, true_or_false, leb_law, says, same_test}
 use Rattle.automata.proofs.Laws.Waiting.{wait_row}
 use Rattle.automata.proofs.Laws.Successors.{edge_rows_law}
 use Rattle.regions.proofs.Laws.Values.{found_sought}
 use Rattle.edge_walk.proofs.Laws.Way.{no_way}
 use Rattle.edge_walk.proofs.Laws.Along.{none_on, on_start}
-use Rattle.table_files.specs.Answer.{Answer, accepted, refused}
+use Rattle.table_files.specs.Answer.{Answer, refused}
 use Rattle.calls.specs.RegionFile.{row_width, row_bytes, rows_bytes}
 use Rattle.calls.proofs.Laws.Rows.{row_width_is}
 use Rattle.following.specs.Following.{Stands, Leaves, rows_waited, rows_led, row_found, fits, told, put}
@@ -73,12 +73,15 @@ module _ (k : clocks_code.Clocks) (four : length k.bounds ≡ 4) (few : Few k) (
 
 -- the rows on a way
 module _ (w : Way) (ready : Ready w.search) (four : length w.search.clocks.bounds ≡ 4) (low : Low w.search.clocks) where
-  pub way_long : length (rows_bytes (way_rows w)) ≡ length (way_rows w) * row_width w.search.clocks.count
+  way_long : length (rows_bytes (way_rows w)) ≡ length (way_rows w) * row_width w.search.clocks.count
   way_long = rows_long w.search.clocks.count (way_rows w) (λ r m. row_sized w.search.clocks four ready.few low r (go r m (true_or_false w.leads)))
     where
       go : (r : Row) → Mem r (way_rows w) → (w.leads ≡ true) ⊎ (w.leads ≡ false) → IsRow (bounds_of w.search.clocks) r
       go r m (inl t) = (on_start w ready t r m).held.is_row
       go r m (inr f) = absurd (none_on w ready f r m)
+
+  pub way_fits : (count room : ℕ) (t : Bool) → count ≡ length (way_rows w) → t ≡ leb (count * row_width w.search.clocks.count) room → t ≡ fits (way_rows w) room
+  way_fits count room t n e = e ∙ ap (λ (i : ℕ). leb i room) (ap (λ (i : ℕ). i * row_width w.search.clocks.count) n ∙ sym way_long)
 
 -- whether they fit -----------------------------------------------------------------------------------------------------------------
 
@@ -104,14 +107,10 @@ fit_count n few count room width e =
 
 -- the answer and the buffer after, for these next rows and the buffer before
 abbrev pub Done : List Row → List ℕ → Answer → List ℕ → Type 0
-Done rows o answer after = (answer ≡ told (fits rows (length o)) rows) × (after ≡ put (fits rows (length o)) rows o)
+Done rows o given after = record { answer : given ≡ told (fits rows (length o)) rows; buffer : after ≡ put (fits rows (length o)) rows o }
 
 pub not_fitted : (rows : List Row) (o : List ℕ) → false ≡ fits rows (length o) → Done rows o (refused 19 0) o
-not_fitted rows o e = rw (← e) (refl, refl)
-
-pub fitted : (rows : List Row) (o after : List ℕ) (count : ℕ) → true ≡ fits rows (length o) → count ≡ length rows
-    → after ≡ rows_bytes rows ++ drop (length (rows_bytes rows)) o → Done rows o (accepted count) after
-fitted rows o after count e n w = rw (← e) (ap accepted n, w)
+not_fitted rows o e = rw (← e) (record { answer = refl; buffer = refl })
 
 -- one row or none
 module _ (n : ℕ) (next : Sought) where
@@ -122,19 +121,9 @@ module _ (n : ℕ) (next : Sought) where
       go true e = refl
       go false e = never e
 
-  no_row : next.found ≡ false → row_found n next ≡ []
-  no_row f = go next.found f
-    where
-      go : (b : Bool) → b ≡ false → row_found n (record { found = b; region = next.region }) ≡ []
-      go true e = never (sym e)
-      go false e = refl
-
   -- its region can be written
   pub narrow_row : ((r : Row) → Mem r (row_found n next) → Sized n r) → next.found ≡ true → (z : ℕ) → z < n → at next.region.intervals z < 256
   narrow_row h f z l = rw (get_or-take n next.region.intervals z 0 l) at ((h (row_of n next.region) (subst (λ (rows : List Row). Mem (row_of n next.region) rows) (sym (row_is f)) (Memᴰ.head refl))).narrow z l)
-
-  pub none_done : next.found ≡ false → (o : List ℕ) → Done (row_found n next) o (accepted 0) o
-  none_done f o = rw (no_row f) (fitted [] o o 0 (sym (le-leb 0 (length o) (omega arith))) refl refl)
 
   module _ (few : n ≤ 4) (p : length next.region.intervals ≡ 4) (q : length next.region.ranks ≡ 4) (f : next.found ≡ true) where
     long : length (rows_bytes (row_found n next)) ≡ row_width n
@@ -142,12 +131,6 @@ module _ (n : ℕ) (next : Sought) where
 
     pub short_done : (o : List ℕ) → length o < row_width n → Done (row_found n next) o (refused 19 0) o
     short_done o h = not_fitted (row_found n next) o (sym (lt-leb (length (rows_bytes (row_found n next))) (length o) (omega (arith, long))))
-
-    pub one_done : (o after : List ℕ) → row_width n ≤ length o → after ≡ row_bytes (row_of n next.region) ++ drop (row_width n) o → Done (row_found n next) o (accepted 1) after
-    one_done o after h w =
-        fitted (row_found n next) o after 1 (sym (le-leb (length (rows_bytes (row_found n next))) (length o) (omega (arith, long)))) (ap length (sym (row_is f)))
-        (w ∙ (λ i. sym (append-nil (row_bytes (row_of n next.region))) i ++ drop (sym long i) o)
-        ∙ ap (λ (l : List Row). rows_bytes l ++ drop (length (rows_bytes (row_found n next))) o) (sym (row_is f)))
 
 -- the rows of an edge and of a wait ----------------------------------------------------------------------------------------------
 
@@ -184,7 +167,3 @@ module _ (k : clocks_code.Clocks) (four : length k.bounds ≡ 4) (r : Region) (S
   no_image e E f next g =
       let w : Way = record { leads = false; target = 0; search = record { clocks = k; moves = record { ranks = 0; each = [] } } } in
       sym (no_way k S.few four r S.is_row e E.bounded w refl f) ∙ no_rows w refl ∙ sym (ap (row_found k.count) g)
-
--- an edge that can be taken leaves from the location, and its guards hold
-pub enabled : (a b : ℕ) (g : Bool) → eqb a b && g ≡ true → (a ≡ b) × (g ≡ true)
-enabled a b g = (and_law (eqb a b) g (eqb_law a b) (λ (h : g ≡ true). h, λ (h : g ≡ true). h)).0

@@ -69,137 +69,141 @@ none_listed x (y ∷ l) e m = absurd (omega arith)
 
 -- what the follower promises of its answer and of the buffer after the call
 abbrev pub Follower : List ℕ → List ℕ → ℕ → List ℕ → Answer → List ℕ → Type 0
-Follower table row number buffer answer after =
-    (answer ≡ follow_answer table row number buffer)
-    × ((after ≡ follow_buffer table row number buffer)
-    × (((k : ℕ) → answer ≡ accepted k → Written (table_of table) row number buffer after k)
-    × (((k : ℕ) → answer ≡ accepted k → number ≡ 65535 → FirstAfter (table_of table) row)
-    × (answer ≡ accepted 0 → number ≡ 65535 → Stays (table_of table) row))))
+Follower table row number lent given after = record {
+  answer : given ≡ follow_answer table row number lent;
+  buffer : after ≡ follow_buffer table row number lent;
+  written : (k : ℕ) → given ≡ accepted k → Written (table_of table) row number lent after k;
+  first : (k : ℕ) → given ≡ accepted k → number ≡ 65535 → FirstAfter (table_of table) row;
+  last : given ≡ accepted 0 → number ≡ 65535 → Stays (table_of table) row;
+}
 
-module _ (table row : List ℕ) (number : ℕ) (buffer : List ℕ) where
-  promised : (answer : Answer) (after : List ℕ) (R : Read (List Row)) → following table row number buffer ≡ R → answer ≡ answered length R → after ≡ written R buffer
-      → Follower table row number buffer answer after
+module _ (table row : List ℕ) (number : ℕ) (lent : List ℕ) where
+  promised : (given : Answer) (after : List ℕ) (R : Read (List Row)) → following table row number lent ≡ R → given ≡ answered length R → after ≡ written R lent
+      → Follower table row number lent given after
   unfolding follow_answer follow_buffer
-  promised answer after R e a b =
-      let p : answer ≡ follow_answer table row number buffer = a ∙ ap (λ (r : Read (List Row)). answered length r) (sym e) in
-      let q : after ≡ follow_buffer table row number buffer = b ∙ ap (λ (r : Read (List Row)). written r buffer) (sym e) in
-      (p, (q, (λ k h. rw q (follow_law table row number buffer k (sym p ∙ h)).1, (first p, last p))))
+  promised given after R e a b =
+      let p : given ≡ follow_answer table row number lent = a ∙ ap (λ (r : Read (List Row)). answered length r) (sym e) in
+      let q : after ≡ follow_buffer table row number lent = b ∙ ap (λ (r : Read (List Row)). written r lent) (sym e) in
+      record { answer = p; buffer = q; written = λ k h. rw q (follow_law table row number lent k (sym p ∙ h)).1; first = first p; last = last p }
     where
-      first : answer ≡ follow_answer table row number buffer → (k : ℕ) → answer ≡ accepted k → number ≡ 65535 → FirstAfter (table_of table) row
+      first : given ≡ follow_answer table row number lent → (k : ℕ) → given ≡ accepted k → number ≡ 65535 → FirstAfter (table_of table) row
       first p k h n r r' bytes R w =
-          let (records, a) = (follow_law table row number buffer k (sym p ∙ h)).0 in
+          let (records, a) = (follow_law table row number lent k (sym p ∙ h)).0 in
           waiting_first (table_of table) (admission_limits table records a) r r' R (inl (refl, w))
 
-      last : answer ≡ follow_answer table row number buffer → answer ≡ accepted 0 → number ≡ 65535 → Stays (table_of table) row
+      last : given ≡ follow_answer table row number lent → given ≡ accepted 0 → number ≡ 65535 → Stays (table_of table) row
       last p h n r bytes R D v c t =
-          let W = (follow_law table row number buffer 0 (sym p ∙ h)).1 in
+          let W = (follow_law table row number lent 0 (sym p ∙ h)).1 in
           let same : r ≡ W.from = row_alone (table_of table) r W.from R W.is_row (sym bytes ∙ W.bytes) in
           waiting_last (table_of table) r R (λ r' s. none_listed r' W.rows W.sized ((W.exact r').1 (inl (n, rw same at s)))) D v c t
 
-  refusing : (n p : ℕ) → following table row number buffer ≡ bad n p → Follower table row number buffer (refused n p) buffer
-  refusing n p e = promised (refused n p) buffer (bad n p) e refl refl
+  refusing : (n p : ℕ) → following table row number lent ≡ bad n p → Follower table row number lent (refused n p) lent
+  refusing n p e = promised (refused n p) lent (bad n p) e refl refl
 
-  -- the table ------------------------------------------------------------------------------------------------------------------
-  module _ (o : Opened) (O : Opens table o) where
-    pub not_admitted : (o.number ≡ 0 → ⊥) → Follower table row number buffer (refused o.number o.place) buffer
-    unfolding following
-    not_admitted h = go (admitted table) refl
-      where
-        go : (r : Read Table) → admitted table ≡ r → Follower table row number buffer (refused o.number o.place) buffer
-        go (good T rest) e = absurd (h (rw e at O).0)
-        go (bad n p) e = let (i, j) = rw e at O in refusing o.number o.place (stops _ _ _ _ e ∙ (λ k. bad (sym i k) (sym j k)))
+-- the table ----------------------------------------------------------------------------------------------------------------------
 
-    pub described : o.number ≡ 0 → Describes table o.head
-    unfolding admission
-    described z = go (admitted table) refl (admission_small table)
-      where
-        go : (r : Read Table) → admitted table ≡ r → Small (answered record_count (admitted table)) → Describes table o.head
-        go (good T rest) e s = (rw e at O).1
-        go (bad n p) e s = let i = (rw e at O).0 in let t = rw e at s in absurd (omega (arith, i, t.0))
+module _ (table : List ℕ) (o : Opened) (O : Opens table o) where
+  pub not_admitted : (row : List ℕ) (number : ℕ) (lent : List ℕ) → (o.number ≡ 0 → ⊥) → Follower table row number lent (refused o.number o.place) lent
+  unfolding following
+  not_admitted row number lent h = go (admitted table) refl
+    where
+      go : (r : Read Table) → admitted table ≡ r → Follower table row number lent (refused o.number o.place) lent
+      go (good T rest) e = absurd (h (rw e at O).0)
+      go (bad n p) e = let (i, j) = rw e at O in refusing table row number lent o.number o.place (stops _ _ _ _ e ∙ (λ k. bad (sym i k) (sym j k)))
 
-  module _ (head : Head) (D : Describes table head) where
-    abbrev T : Table
-    T = table_of table
+  pub described : o.number ≡ 0 → Describes table o.head
+  unfolding admission
+  described z = go (admitted table) refl (admission_small table)
+    where
+      go : (r : Read Table) → admitted table ≡ r → Small (answered record_count (admitted table)) → Describes table o.head
+      go (good T rest) e s = (rw e at O).1
+      go (bad n p) e s = let i = (rw e at O).0 in let t = rw e at s in absurd (omega (arith, i, t.0))
 
-    past_table : following table row number buffer ≡ rows_followed T number (length buffer) row
-    unfolding following
-    past_table = let (k, p) = D.passes in let (rest, e, _) = admission_read table k p in goes _ _ T rest e
+module _ {table : List ℕ} {head : Head} (D : Describes table head) where
+  abbrev T : Table
+  T = table_of table
 
-    limits : Limits T
-    limits = let (k, p) = D.passes in admission_limits table k p
+  limits : Limits T
+  limits = let (k, p) = D.passes in admission_limits table k p
 
-    -- the row ------------------------------------------------------------------------------------------------------------------
-    module _ (r : RowRead) (R : ReadsRow T row 0 r) where
-      pub row_refused : (r.number ≡ 0 → ⊥) → Follower table row number buffer (refused r.number 0) buffer
+  -- an edge of the table
+  pub leaves : {number : ℕ} (e : edge_code.Edge) → number < head.edges → edge_of head.clocks.count e ≡ edge T number → e.guard_count ≤ 8 → Leaves head.clocks e
+  leaves {number} e l m g = record { few_guards = g; bounded = rw (m, D.bounds) (let (k, p) = D.passes in (admission_admitted table k p).bounded number (omega (arith, D.edges))) }
+
+  -- the row ----------------------------------------------------------------------------------------------------------------------
+  module _ (row : List ℕ) (r : RowRead) (R : ReadsRow T row 0 r) where
+    abbrev from : Row
+    from = row_of (clocks T) r.region
+
+    abbrev left : List ℕ
+    left = drop (0 + row_width (clocks T)) row
+
+    left_long : length left ≡ length row - (row_width head.clocks.count)
+    left_long = simp length-drop (omega (arith, ap row_width D.count))
+
+    pub stands : r.number ≡ 0 → Stands head.clocks r.region
+    stands z = record {
+      few = D.few;
+      low = λ z h. omega (arith, limits.low_bounds z (omega (arith, D.count)), ap (λ (c : List ℕ). at c z) D.bounds, get_or-take head.clocks.count head.clocks.bounds z 0 h);
+      is_row = rw (D.bounds, D.count) (reads_row T row 0 r R z).is_row;
+    }
+
+    module _ (number : ℕ) (lent : List ℕ) where
+      past_table : following table row number lent ≡ rows_followed T number (length lent) row
+      unfolding following
+      past_table = let (k, p) = D.passes in let (rest, e, _) = admission_read table k p in goes _ _ T rest e
+
+      pub row_refused : (r.number ≡ 0 → ⊥) → Follower table row number lent (refused r.number 0) lent
       unfolding rows_followed
-      row_refused h = refusing r.number 0 (past_table ∙ stops _ _ _ _ (reads_bad T row 0 r R h 0))
+      row_refused h = refusing table row number lent r.number 0 (past_table ∙ stops _ _ _ _ (reads_bad T row 0 r R h 0))
 
       module _ (z : r.number ≡ 0) where
-        abbrev from : Row
-        from = row_of (clocks T) r.region
-
-        abbrev left : List ℕ
-        left = drop (0 + row_width (clocks T)) row
-
-        left_long : length left ≡ length row - (row_width head.clocks.count)
-        left_long = simp length-drop (omega (arith, ap row_width D.count))
-
-        pub bytes_follow : row_width head.clocks.count < length row → Follower table row number buffer (refused 9 1) buffer
+        pub bytes_follow : row_width head.clocks.count < length row → Follower table row number lent (refused 9 1) lent
         unfolding rows_followed
         bytes_follow h =
-            refusing 9 1 (past_table ∙ goes _ _ from left (reads_good T row 0 r R z 0) ∙ stops _ _ _ _ (bytes_left 9 1 left (omega (arith, left_long))))
+            refusing table row number lent 9 1 (past_table ∙ goes _ _ from left (reads_good T row 0 r R z 0) ∙ stops _ _ _ _ (bytes_left 9 1 left (omega (arith, left_long))))
 
         module _ (whole : length row ≤ row_width head.clocks.count) where
           no_left : end 9 1 left ≡ good tt left
           no_left = no_bytes_left 9 1 left (omega (arith, left_long))
 
-          pub neither : head.edges ≤ number → (number ≡ 65535 → ⊥) → Follower table row number buffer (refused 18 0) buffer
+          pub neither : head.edges ≤ number → (number ≡ 65535 → ⊥) → Follower table row number lent (refused 18 0) lent
           unfolding rows_followed
           neither h n =
               let out : (ltb number (length T.edges) || eqb number 65535) ≡ false =
               rw (le-ltb number (length T.edges) (omega (arith, D.edges)), ne_eqb number 65535 n) in
-              refusing 18 0 (past_table ∙ goes _ _ from left (reads_good T row 0 r R z 0) ∙ goes _ _ tt left no_left ∙ stops _ _ _ _ (fails_test 18 0 _ left out))
+              refusing table row number lent 18 0 (past_table ∙ goes _ _ from left (reads_good T row 0 r R z 0) ∙ goes _ _ tt left no_left ∙ stops _ _ _ _ (fails_test 18 0 _ left out))
 
           -- the next rows ------------------------------------------------------------------------------------------------------
-          done_so : (answer : Answer) (after : List ℕ) → (ltb number (length T.edges) || eqb number 65535) ≡ true
-              → Done (followed T number from) buffer answer after → Follower table row number buffer answer after
+          done_so : (given : Answer) (after : List ℕ) → (ltb number (length T.edges) || eqb number 65535) ≡ true
+              → Done (followed T number from) lent given after → Follower table row number lent given after
           unfolding rows_followed
-          done_so answer after test (a, b) = go (fits (followed T number from) (length buffer)) refl a b
+          done_so given after test d = go (fits (followed T number from) (length lent)) refl d.answer d.buffer
             where
-              go : (t : Bool) → fits (followed T number from) (length buffer) ≡ t → answer ≡ told t (followed T number from)
-                  → after ≡ put t (followed T number from) buffer → Follower table row number buffer answer after
+              go : (t : Bool) → fits (followed T number from) (length lent) ≡ t → given ≡ told t (followed T number from)
+                  → after ≡ put t (followed T number from) lent → Follower table row number lent given after
               go true e a b =
-                  promised answer after (good (followed T number from) left)
+                  promised table row number lent given after (good (followed T number from) left)
                   (past_table ∙ goes _ _ from left (reads_good T row 0 r R z 0) ∙ goes _ _ tt left no_left ∙ goes _ _ tt left (passes 18 0 _ left test) ∙ goes _ _ tt left (passes 19 0 _ left e))
                   a b
               go false e a b =
-                  promised answer after (bad 19 0)
+                  promised table row number lent given after (bad 19 0)
                   (past_table ∙ goes _ _ from left (reads_good T row 0 r R z 0) ∙ goes _ _ tt left no_left ∙ goes _ _ tt left (passes 18 0 _ left test) ∙ stops _ _ _ _ (fails_test 19 0 _ left e))
                   a b
 
-          pub stands : Stands head.clocks r.region
-          stands = record {
-            few = D.few;
-            low = λ z h. omega (arith, limits.low_bounds z (omega (arith, D.count)), ap (λ (c : List ℕ). at c z) D.bounds, get_or-take head.clocks.count head.clocks.bounds z 0 h);
-            is_row = rw (D.bounds, D.count) (reads_row T row 0 r R z).is_row;
-          }
-
-          pub by_waiting : (answer : Answer) (after : List ℕ) → number ≡ 65535 → Done (rows_waited head.clocks r.region) buffer answer after
-              → Follower table row number buffer answer after
+          pub by_waiting : (given : Answer) (after : List ℕ) → number ≡ 65535 → Done (rows_waited head.clocks r.region) lent given after
+              → Follower table row number lent given after
           unfolding followed
-          by_waiting answer after n d =
+          by_waiting given after n d =
               let same : rows_waited head.clocks r.region ≡ followed T number from =
               rw (eq-eqb number 65535 n) ((λ i. wait_rows (D.bounds i) (row_of (D.count i) r.region)) ∙ sym (time_successors_are T from)) in
-              done_so answer after ((or_law _ _ (ltb_law number (length T.edges)) (eqb_law number 65535)).1 (inr n)) (rw same at d)
+              done_so given after ((or_law _ _ (ltb_law number (length T.edges)) (eqb_law number 65535)).1 (inr n)) (rw same at d)
 
-          module _ (e : edge_code.Edge) (l : number < head.edges) (m : edge_of head.clocks.count e ≡ edge T number) where
-            pub leaves : e.guard_count ≤ 8 → Leaves head.clocks e
-            leaves g = record { few_guards = g; bounded = rw (m, D.bounds) (let (k, p) = D.passes in (admission_admitted table k p).bounded number (omega (arith, D.edges))) }
-
-            pub by_edge : (answer : Answer) (after : List ℕ) → Done (rows_led head.clocks e r.region) buffer answer after → Follower table row number buffer answer after
-            unfolding followed
-            by_edge answer after d =
-                let not_waiting : number ≡ 65535 → ⊥ = λ n. omega (arith, n, l, D.edges, limits.few_edges) in
-                let same : rows_led head.clocks e r.region ≡ followed T number from =
-                rw (ne_eqb number 65535 not_waiting) ((λ i. edge_rows (D.bounds i) (m i) (row_of (D.count i) r.region)) ∙ sym (edge_successors_are T number from)) in
-                done_so answer after ((or_law _ _ (ltb_law number (length T.edges)) (eqb_law number 65535)).1 (inl (omega (arith, D.edges)))) (rw same at d)
+          pub by_edge : (e : edge_code.Edge) → number < head.edges → edge_of head.clocks.count e ≡ edge T number → (given : Answer) (after : List ℕ)
+              → Done (rows_led head.clocks e r.region) lent given after → Follower table row number lent given after
+          unfolding followed
+          by_edge e l m given after d =
+              let not_waiting : number ≡ 65535 → ⊥ = λ n. omega (arith, n, l, D.edges, limits.few_edges) in
+              let same : rows_led head.clocks e r.region ≡ followed T number from =
+              rw (ne_eqb number 65535 not_waiting) ((λ i. edge_rows (D.bounds i) (m i) (row_of (D.count i) r.region)) ∙ sym (edge_successors_are T number from)) in
+              done_so given after ((or_law _ _ (ltb_law number (length T.edges)) (eqb_law number 65535)).1 (inl (omega (arith, D.edges)))) (rw same at d)

@@ -6,7 +6,6 @@ use mathlib.Core.Path.{◌≡◌, refl, sym, ap, subst, ◌∙◌}
 use mathlib.Core.Bool.{Bool, true, false, cond}
 use mathlib.Core.List.{List, [], ◌∷◌, ◌++◌, append_assoc, append-nil}
 use lib.ListN.{length, get_or, take, drop, length-append, length-drop, take-append-drop}
-use lib.Seq.{take_all}
 use Rattle.automata.specs.Row.{Row}
 use Rattle.automata.specs.Rows.{select}
 use Rattle.regions.specs.Values.{row_of}
@@ -31,12 +30,16 @@ pub record Put (rows : List Row) (o buffer : List ℕ) (place : ℕ) : Type 0 wh
   pub out_is : buffer ≡ rows_bytes rows ++ drop place o
   pub long : length buffer ≡ length o
 
+-- the rows are written, in so many bytes
+abbrev pub Wrote : List Row → List ℕ → List ℕ → ℕ → Type 0
+Wrote written o buffer place = record { bytes : place ≡ length (rows_bytes written); rows : Holds written o buffer }
+
 pub put_none : (o : List ℕ) → Put [] o o 0
 put_none o = record { place_is = refl; out_is = refl; long = refl }
 
 module _ (rows : List Row) (o buffer : List ℕ) (place : ℕ) (P : Put rows o buffer place) where
-  pub put_holds : (place ≡ length (rows_bytes rows)) × Holds rows o buffer
-  put_holds = (sym P.place_is, P.out_is ∙ ap (λ (k : ℕ). rows_bytes rows ++ drop k o) (sym P.place_is))
+  pub put_holds : Wrote rows o buffer place
+  put_holds = record { bytes = sym P.place_is; rows = P.out_is ∙ ap (λ (k : ℕ). rows_bytes rows ++ drop k o) (sym P.place_is) }
 
   -- more rows, written to the rest of the buffer
   pub put_more : (more : List Row) → length (rows_bytes (rows ++ more)) ≤ length o → (w : List ℕ) → Holds more (take (length buffer - place) (drop place buffer)) w
@@ -104,23 +107,14 @@ module _ (n : ℕ) (few : n ≤ 4) (v : Region) (p : length v.intervals ≡ 4) (
   room_one false room e h = never e
 
   pub wrote_one : (b : Bool) (k : ℕ) (before after : List ℕ) → b ≡ true → k ≡ row_width n → after ≡ row_bytes (row_of n v) ++ drop (row_width n) before
-      → (k ≡ length (rows_bytes (row_if b (row_of n v)))) × Holds (row_if b (row_of n v)) before after
-  wrote_one true k before after e f h = (
-    f ∙ sym one_long,
-    h ∙ sym (λ i. append-nil (row_bytes (row_of n v)) i ++ drop (one_long i) before),
-  )
+      → Wrote (row_if b (row_of n v)) before after k
+  wrote_one true k before after e f h =
+      record { bytes = f ∙ sym one_long; rows = h ∙ sym (λ i. append-nil (row_bytes (row_of n v)) i ++ drop (one_long i) before) }
   wrote_one false k before after e f h = never e
-
-pub wrote_none : (b : Bool) (r : Row) (before : List ℕ) → b ≡ false → (0 ≡ length (rows_bytes (row_if b r))) × Holds (row_if b r) before before
-wrote_none true r before e = never (sym e)
-wrote_none false r before e = (refl, refl)
 
 -- row j of a list is written where it passes --------------------------------------------------------------------------------------
 
 module _ (p : Row → Bool) (rows : List Row) (o buffer : List ℕ) (place j : ℕ) (P : Put (select p (take j rows)) o buffer place) where
-  pub all_passed : length rows ≤ j → (place ≡ length (rows_bytes (select p rows))) × Holds (select p rows) o buffer
-  all_passed h = subst (λ (l : List Row). (place ≡ length (rows_bytes (select p l))) × Holds (select p l) o buffer) (take_all j rows h) (put_holds (select p (take j rows)) o buffer place P)
-
   module _ (x d : Row) (b : Bool) (h : j < length rows) (e : x ≡ get_or rows j d) (f : b ≡ p x) (room : length (rows_bytes (select p rows)) ≤ length o) where
     fits_in : length (rows_bytes (select p (take j rows) ++ row_if b x)) ≤ length o
     fits_in = omega (arith, ap (λ (l : List Row). length (rows_bytes l)) (passed_more p rows j x d b h e f), passed_short p rows (j + 1))

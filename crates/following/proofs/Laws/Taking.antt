@@ -33,7 +33,7 @@ use Rattle.edge_walk.proofs.Laws.Along.{way_sorted, starts, start_on, on_start}
 use Rattle.edge_walk.proofs.Laws.Intervals.{chosen_start}
 use Rattle.ranked_ways.proofs.Laws.Allowed.{allowed_sorted}
 use Rattle.ranked_ways.proofs.Laws.Chosen.{four_intervals, sized, begun_in, in_begun, in_ahead}
-use Rattle.following.proofs.Laws.Put.{Put, put_none, put_holds, put_more, put_room, rows_length}
+use Rattle.following.proofs.Laws.Put.{Put, Wrote, put_none, put_holds, put_more, put_room, rows_length}
 
 -- lists that ascend --------------------------------------------------------------------------------------------------------------
 
@@ -176,9 +176,9 @@ module _ (w : Way) (a : Stand) (e : a ≡ start w.target) where
 module _ (rows : List Row) (s : Search) (ready : Ready s) (bounds : length s.clocks.bounds ≡ 4) (a : Stand) (o buffer : List ℕ) (place : ℕ)
     (T : Taken rows s a o buffer place) where
   -- at the end all of them are
-  pub all_taken : a.depth ≡ 0 → (place ≡ length (rows_bytes rows)) × Holds rows o buffer
+  pub all_taken : a.depth ≡ 0 → Wrote rows o buffer place
   all_taken e =
-      subst (λ (l : List Row). (place ≡ length (rows_bytes l)) × Holds l o buffer) (sym (T.whole ∙ ap (λ (l : List Row). T.front ++ l) (none T.rest T.to) ∙ append-nil T.front))
+      subst (λ (l : List Row). Wrote l o buffer place) (sym (T.whole ∙ ap (λ (l : List Row). T.front ++ l) (none T.rest T.to) ∙ append-nil T.front))
       (put_holds T.front o buffer place T.written)
     where
       none : (xs : List Row) → ((x : Row) → Mem x xs → Ahead s a x) → xs ≡ []

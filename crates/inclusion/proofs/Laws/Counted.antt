@@ -29,27 +29,7 @@ use Rattle.listed_rows.specs.Located.{Starts, Together}
 use Rattle.inclusion.specs.Counted.{passing}
 use Rattle.listed_rows.proofs.Laws.Listed.{listed_in, in_listed, listed_rise}
 use Rattle.listed_rows.proofs.Laws.Located.{between}
-
--- rows counted one after the other ------------------------------------------------------------------------------------------------------
-
-module _ (p : Row → Bool) (row : ℕ → Row) (lo : ℕ) where
-  pub passing_none : (m : ℕ) → m ≡ 0 → 0 ≡ passing p row lo m
-  unfolding passing
-  passing_none m e = rw e refl
-
-  pub passing_one : (i total : ℕ) → lo ≤ i → total ≡ passing p row lo (i - lo) → p (row i) ≡ true → total + 1 ≡ passing p row lo (i + 1 - lo)
-  unfolding passing
-  passing_one i total l e h =
-      let a : i + 1 - lo ≡ suc (i - lo) = omega arith in
-      let b : lo + (i - lo) ≡ i = omega arith in
-      rw (a, b, h, e) refl
-
-  pub passing_on : (i total : ℕ) → lo ≤ i → total ≡ passing p row lo (i - lo) → p (row i) ≡ false → total ≡ passing p row lo (i + 1 - lo)
-  unfolding passing
-  passing_on i total l e h =
-      let a : i + 1 - lo ≡ suc (i - lo) = omega arith in
-      let b : lo + (i - lo) ≡ i = omega arith in
-      rw (a, b, h) (e ∙ (omega arith))
+use Rattle.std.specs.List.{filter, range_with_len}
 
 -- sorted lists --------------------------------------------------------------------------------------------------------------------------
 
@@ -83,15 +63,26 @@ module _ (p : Row → Bool) (row : ℕ → Row) where
   passing_first zero lo = let e : lo + 0 ≡ lo = omega arith in rw e (omega arith)
   passing_first (suc m) lo = let e : lo + suc m ≡ lo + 1 + m = omega arith in rw (passing_first m lo, e) (omega arith)
 
+  kept_length : {A : Type 0} (b : Bool) (x : A) (xs : List A) → length (cond b (x ∷ xs) xs) ≡ one_if b + length xs
+  kept_length true x xs = omega arith
+  kept_length false x xs = omega arith
+
   passed_length : (m lo : ℕ) → length (select p (map row (from lo m))) ≡ passing p row lo m
   unfolding passing
   passed_length zero lo = refl
-  passed_length (suc m) lo = rw (passing_first m lo) (go (p (row lo)) (passed_length m (lo + 1)))
-    where
-      go : (b : Bool) → length (select p (map row (from (lo + 1) m))) ≡ passing p row (lo + 1) m
-          → length (cond b (row lo ∷ select p (map row (from (lo + 1) m))) (select p (map row (from (lo + 1) m)))) ≡ one_if b + passing p row (lo + 1) m
-      go true h = omega (arith, h)
-      go false h = omega (arith, h)
+  passed_length (suc m) lo =
+      kept_length (p (row lo)) (row lo) _
+      ∙ ap (λ (k : ℕ). one_if (p (row lo)) + k) (passed_length m (lo + 1))
+      ∙ sym (passing_first m lo)
+
+  -- .. and as those of their numbers that `filter` leaves
+  pub passed_numbers : (m lo : ℕ) → length (filter (λ i. p (row i)) (range_with_len lo m)) ≡ passing p row lo m
+  unfolding passing
+  passed_numbers zero lo = refl
+  passed_numbers (suc m) lo =
+      kept_length (p (row lo)) lo _
+      ∙ ap (λ (k : ℕ). one_if (p (row lo)) + k) (passed_numbers m (lo + 1))
+      ∙ sym (passing_first m lo)
 
 -- a way's rows in a list -------------------------------------------------------------------------------------------------------------------
 

@@ -1,23 +1,22 @@
--- The header and the marks of a list, written over what stood there; a buffer that is cleared. Assumes nothing.
+-- The header and the marks of a list, written over what stood there. Assumes nothing.
 use Prim.Native.Nat.{ℕ, ◌+◌, ◌*◌, ◌≤◌, ◌<◌}
 use native.Mathlib.Numerals.{add-one}
 use native.Mathlib.Nat.{zero-mul, add-mul, one-mul}
 use native.Mathlib.Omega.{arith}
 use mathlib.Core.Path.{◌≡◌, refl, sym, ap, ◌∙◌}
 use mathlib.Core.List.{List, [], ◌∷◌, ◌++◌, map, append_assoc, append-nil, map-append}
-use lib.ListN.{length, take, drop, set, replicate, length-append, length-drop, length-set, length-replicate, take-append-drop, replicate-append-replicate}
-use lib.Seq.{length-take-le, take_at, drop_at, drop-drop, drop-append-le, drop-length}
+use lib.ListN.{length, take, drop, length-append, length-drop, take-append-drop}
+use lib.Seq.{paste, length-take-le, take_at, drop_at, drop-drop, drop-append-le}
 use Rattle.automata.specs.Row.{Row}
 use Rattle.automata.specs.Rows.{from}
 use Rattle.table_files.specs.Bytes.{RL, RW, two_bytes}
 use Rattle.table_records.proofs.Laws.Loops.{from_last}
 use Rattle.calls.specs.RegionFile.{row_width, row_bytes, rows_bytes, list_bytes}
 use Rattle.calls.proofs.Laws.Rows.{row_width_is}
-use Rattle.calls.proofs.Laws.Writing.{store_next}
 use Rattle.listed_rows.specs.Listed.{listed_bytes, listed_row, listed_rows}
 use Rattle.listed_rows.proofs.Laws.Listed.{listed_length, row_room}
 use Rattle.listed_rows.proofs.Laws.ListedNumbers.{bytes_long}
-use Rattle.kept_rows.proofs.Laws.Parts.{drop_past, stored_two}
+use Rattle.kept_rows.proofs.Laws.Parts.{drop_past}
 use Rattle.kept_rows.proofs.Laws.RowBytes.{bytes_after_mark}
 
 -- one row more --------------------------------------------------------------------------------------------------------------------------
@@ -87,11 +86,10 @@ module _ (n : ℕ) (o : List ℕ) (count i : ℕ) (out : List ℕ) (M : Marked n
     unfolding listed_row
     row_is = bytes_after_mark n row row_long
 
-    wrote : set (set out place 82) (place + 1) 87 ≡ (marked ++ row_bytes (listed_row n o i)) ++ drop (4 + (i + 1) * row_width n) o
+    wrote : take place out ++ (RW ++ drop (place + 2) out) ≡ (marked ++ row_bytes (listed_row n o i)) ++ drop (4 + (i + 1) * row_width n) o
     wrote =
         let later : List ℕ = drop (4 + (i + 1) * row_width n) o in
-        stored_two out place 82 87 (omega (arith, next_room, row_width_is n))
-        ∙ (λ j. take place (M.bytes j) ++ (RW ++ drop (place + 2) (M.bytes j)))
+        (λ j. take place (M.bytes j) ++ (RW ++ drop (place + 2) (M.bytes j)))
         ∙ (λ j. take_at marked (drop place o) place long j ++ (RW ++ drop_past marked (drop place o) place 2 long j))
         ∙ ap (λ (l : List ℕ). marked ++ (RW ++ drop 2 l)) split
         ∙ ap (λ (l : List ℕ). marked ++ (RW ++ l)) (drop-append-le 2 row later (omega (arith, row_long, row_width_is n)))
@@ -101,7 +99,7 @@ module _ (n : ℕ) (o : List ℕ) (count i : ℕ) (out : List ℕ) (M : Marked n
     rows_are : rows_bytes (listed_rows n o (i + 1)) ≡ rows_bytes (listed_rows n o i) ++ row_bytes (listed_row n o i)
     rows_are = ap rows_bytes (listed_more n o i) ∙ rows_more (listed_rows n o i) (listed_row n o i)
 
-    pub marked_next : Marked n o count (i + 1) (set (set out place 82) (place + 1) 87)
+    pub marked_next : Marked n o count (i + 1) (take place out ++ (RW ++ drop (place + 2) out))
     marked_next = record {
       within = omega arith;
       width =
@@ -111,30 +109,18 @@ module _ (n : ℕ) (o : List ℕ) (count i : ℕ) (out : List ℕ) (M : Marked n
           wrote
           ∙ ap (λ (l : List ℕ). l ++ drop (4 + (i + 1) * row_width n) o)
           (append_assoc (take 4 o) (rows_bytes (listed_rows n o i)) (row_bytes (listed_row n o i)) ∙ ap (λ (l : List ℕ). take 4 o ++ l) (sym rows_are));
-      same_length = simp length-set M.same_length;
+      same_length = simp (length-append, length-drop) (omega (arith, length-take-le place out (omega (arith, next_room)), next_room, row_width_is n, M.same_length));
     }
-
-  pub marked_all : count ≤ i → out ≡ (take 4 o ++ rows_bytes (listed_rows n o count)) ++ drop (4 + count * row_width n) o
-  marked_all h =
-      let e : i ≡ count = omega (arith, M.within) in
-      M.bytes ∙ ap (λ (k : ℕ). (take 4 o ++ rows_bytes (listed_rows n o k)) ++ drop (4 + k * row_width n) o) e
 
 -- the same, of a width w that the code has computed
 module _ (n : ℕ) (o : List ℕ) (count i : ℕ) (out : List ℕ) (M : Marked n o count i out) (room : 4 + count * row_width n ≤ length o) (more : i < count) (w : ℕ) (e : w ≡ row_width n) where
   pub mark_room : 4 + i * w + 3 ≤ length out
   mark_room = rw e (omega (arith, next_room n o count i out M room more, row_width_is n))
 
-  pub mark_next : Marked n o count (i + 1) (set (set out (4 + i * w) 82) (4 + i * w + 1) 87)
-  mark_next = rw e (marked_next n o count i out M room more)
+  pub mark_next : (next : List ℕ) → next ≡ paste out (4 + i * w) RW 2 → Marked n o count (i + 1) next
+  mark_next next q = rw (q, append_assoc) (rw e (marked_next n o count i out M room more))
 
--- the header ----------------------------------------------------------------------------------------------------------------------------
-
-pub header_written : (o out : List ℕ) (count : ℕ) → 4 ≤ length o → out ≡ take 2 (set (set o 0 82) 1 76) ++ (two_bytes count ++ drop 4 (set (set o 0 82) 1 76))
-    → out ≡ (RL ++ two_bytes count) ++ drop 4 o
-header_written o out count h e =
-    e
-    ∙ ap (λ (l : List ℕ). take 2 l ++ (two_bytes count ++ drop 4 l)) (stored_two o 0 82 76 (omega arith))
-    ∙ ap (λ (l : List ℕ). RL ++ (two_bytes count ++ l)) (drop-drop 2 2 o)
+-- the whole list ------------------------------------------------------------------------------------------------------------------------
 
 -- a is the buffer after the marks, b after the header
 pub list_finished : (n : ℕ) (o a b : List ℕ) (count : ℕ) → 4 ≤ length o → a ≡ (take 4 o ++ rows_bytes (listed_rows n o count)) ++ drop (4 + count * row_width n) o
@@ -146,17 +132,3 @@ list_finished n o a b count h e f =
     ∙ ap (λ (l : List ℕ). (RL ++ two_bytes count) ++ drop 4 l) (e ∙ append_assoc (take 4 o) rows later)
     ∙ ap (λ (l : List ℕ). (RL ++ two_bytes count) ++ l) (drop_at (take 4 o) (rows ++ later) 4 (length-take-le 4 o h))
     ∙ ap (λ (k : ℕ). (RL ++ two_bytes k) ++ (rows ++ later)) (sym (listed_length n o count))
-
--- zeros ---------------------------------------------------------------------------------------------------------------------------------
-
-pub cleared_next : (o out : List ℕ) (j : ℕ) → out ≡ replicate j 0 ++ drop j o → j < length o → set out j 0 ≡ replicate (j + 1) 0 ++ drop (j + 1) o
-cleared_next o out j e h =
-    store_next (replicate j 0) o out j 0 0 (length-replicate j 0) e h
-    ∙ ap (λ (l : List ℕ). l ++ drop (j + 1) o) (replicate-append-replicate j 1 0)
-
-pub cleared_all : (o out : List ℕ) (j : ℕ) → out ≡ replicate j 0 ++ drop j o → j ≡ length o → out ≡ replicate (length o) 0
-cleared_all o out j e q =
-    e
-    ∙ ap (λ (k : ℕ). replicate k 0 ++ drop k o) q
-    ∙ ap (λ (l : List ℕ). replicate (length o) 0 ++ l) (drop-length o)
-    ∙ append-nil (replicate (length o) 0)

@@ -19,9 +19,9 @@ use Rattle.calls.proofs.Laws.Rows.{row_width_is}
 use Rattle.calls.proofs.Laws.Writing.{rest_next}
 use Rattle.listed_rows.specs.Listed.{listed_bytes, listed_row}
 use Rattle.listed_rows.proofs.Laws.Listed.{row_room}
+use Rattle.std.specs.List.{copy_within}
 use Rattle.kept_rows.specs.Births.{birth}
 use Rattle.kept_rows.specs.Inserted.{RowIs, SameRow, Inserted}
-use Rattle.kept_rows.specs.Moved.{moved}
 use Rattle.kept_rows.proofs.Laws.Parts.{part_within, drop_past}
 use Rattle.kept_rows.proofs.Laws.RowBytes.{row_after}
 
@@ -139,21 +139,24 @@ module _ (n : ℕ) (o : List ℕ) (count m : ℕ) (row : Row) where
     }
 
     -- a is the buffer after the shift, b after the row was written to the front v of its rest, c after the birth
-    left_behind : (a b c v : List ℕ) → a ≡ moved start end size o → v ≡ row_bytes row ++ drop size (take (length a - start) (drop start a))
+    left_behind : (a b c v : List ℕ) → a ≡ copy_within o start end (start + size) → v ≡ row_bytes row ++ drop size (take (length a - start) (drop start a))
         → b ≡ take start a ++ (v ++ drop (length a - start) (drop start a)) → c ≡ take start b ++ (two_bytes count ++ drop (start + 2) b) → c ≡ with_row
     left_behind a b c v f g h k =
         k
         ∙ (λ i. take start (wrote i) ++ (two_bytes count ++ drop (start + 2) (wrote i)))
         ∙ (λ i. take_at (take start o) (row_bytes row ++ later) start long_front i ++ (two_bytes count ++ drop_past (take start o) (row_bytes row ++ later) start 2 long_front i))
       where
+        moved : a ≡ take (start + size) o ++ later
+        moved = let e : start + size + (end - start) ≡ end + size = omega (arith, order) in f ∙ append_assoc (take (start + size) o) higher (drop (start + size + (end - start)) o) ∙ ap (λ (k : ℕ). take (start + size) o ++ (higher ++ drop k o)) e
+
         front : take start a ≡ take start o
         front =
-            ap (take start) f
+            ap (take start) moved
             ∙ take-append-le start (take (start + size) o) later (omega (arith, length-take-le (start + size) o (omega (arith, order, suc-mul count size))))
             ∙ take-take start (start + size) o (omega arith)
 
         back : drop (start + size) a ≡ later
-        back = ap (drop (start + size)) f ∙ drop_at (take (start + size) o) later (start + size) (length-take-le (start + size) o (omega (arith, order, suc-mul count size)))
+        back = ap (drop (start + size)) moved ∙ drop_at (take (start + size) o) later (start + size) (length-take-le (start + size) o (omega (arith, order, suc-mul count size)))
 
         wrote : b ≡ take start o ++ (row_bytes row ++ later)
         wrote =
@@ -163,12 +166,12 @@ module _ (n : ℕ) (o : List ℕ) (count m : ℕ) (row : Row) where
             ∙ (λ i. front i ++ (row_bytes row ++ back i))
 
     -- the same, of a width that the code has computed
-    pub inserted_by : (w : ℕ) → w ≡ row_width n → (a b c v : List ℕ) → a ≡ moved (4 + m * w) (4 + count * w) w o
+    pub inserted_by : (w : ℕ) → w ≡ row_width n → (a b c v : List ℕ) → a ≡ copy_within o (4 + m * w) (4 + count * w) (4 + m * w + w)
         → v ≡ row_bytes row ++ drop (row_width n) (take (length a - (4 + m * w)) (drop (4 + m * w) a))
         → b ≡ take (4 + m * w) a ++ (v ++ drop (length a - (4 + m * w)) (drop (4 + m * w) a))
         → c ≡ take (4 + m * w) b ++ (two_bytes count ++ drop (4 + m * w + 2) b) → Inserted n o count m row c
     inserted_by w e a b c v =
-        subst (λ (w : ℕ). a ≡ moved (4 + m * w) (4 + count * w) w o
+        subst (λ (w : ℕ). a ≡ copy_within o (4 + m * w) (4 + count * w) (4 + m * w + w)
         → v ≡ row_bytes row ++ drop (row_width n) (take (length a - (4 + m * w)) (drop (4 + m * w) a))
         → b ≡ take (4 + m * w) a ++ (v ++ drop (length a - (4 + m * w)) (drop (4 + m * w) a))
         → c ≡ take (4 + m * w) b ++ (two_bytes count ++ drop (4 + m * w + 2) b) → Inserted n o count m row c)

@@ -1,11 +1,10 @@
--- Parts of lists, and two bytes stored in one. Assumes nothing.
+-- Parts of lists. Assumes nothing.
 use Prim.Native.Nat.{ℕ, ◌+◌, ◌≤◌}
-use native.Mathlib.Numerals.{add-one}
 use native.Mathlib.Omega.{arith}
 use mathlib.Core.Path.{◌≡◌, sym, ap, ◌∙◌}
-use mathlib.Core.List.{List, [], ◌∷◌, ◌++◌, append_assoc}
-use lib.ListN.{length, take, drop, set, length-drop}
-use lib.Seq.{take-append-le, drop-append-le, drop-append-add, sets-eq}
+use mathlib.Core.List.{List, ◌++◌}
+use lib.ListN.{length, take, drop, length-drop}
+use lib.Seq.{take-append-le, drop-append-le, drop-append-add}
 
 module _ {A : Type 0} where
   -- a part that ends within the first list does not depend on what follows
@@ -18,7 +17,3 @@ module _ {A : Type 0} where
   -- what comes after the first list
   pub drop_past : (xs ys : List A) (p q : ℕ) → length xs ≡ p → drop (p + q) (xs ++ ys) ≡ drop q ys
   drop_past xs ys p q e = rw (← e) (drop-append-add xs ys q)
-
--- two bytes, stored one after the other
-pub stored_two : (l : List ℕ) (p x y : ℕ) → p + 2 ≤ length l → set (set l p x) (p + 1) y ≡ take p l ++ (x ∷ (y ∷ drop (p + 2) l))
-stored_two l p x y h = ap (λ (k : ℕ). set (set l p x) k y) (add-one p) ∙ sets-eq (x ∷ y ∷ []) l p h ∙ append_assoc (take p l) (x ∷ y ∷ []) (drop (p + 2) l)

@@ -71,9 +71,6 @@ pub record Searched (row : ℕ → Row) (count : ℕ) (w : Row) (low high : ℕ)
   pub below : (i : ℕ) → i < low → belowb (row i) w ≡ true
   pub others : (i : ℕ) → high ≤ i → i < count → belowb (row i) w ≡ false
 
-pub searched_nothing : (row : ℕ → Row) (count : ℕ) (w : Row) → Searched row count w 0 count
-searched_nothing row count w = record { ordered = omega arith; within = omega arith; below = λ i h. absurd (omega arith); others = λ i h l. absurd (omega arith) }
-
 module _ (row : ℕ → Row) (count : ℕ) (w : Row) (low high : ℕ) (S : Searched row count w low high) where
   module _ (rise : (i j : ℕ) → i < j → j < count → Below (row i) (row j)) (m : ℕ) (above : low ≤ m) (under : m < high) where
     -- a row that is below has all before it below
@@ -97,6 +94,17 @@ module _ (row : ℕ → Row) (count : ℕ) (w : Row) (low high : ℕ) (S : Searc
 
   pub searched_all : high ≤ low → Splits row count w low
   searched_all h = record { within = omega (arith, S.ordered, S.within); below = S.below; others = λ i k l. S.others i (omega (arith, S.ordered)) l }
+
+-- a row that is met has all before it below, and no other
+pub met_splits : (row : ℕ → Row) (count : ℕ) (w : Row) → ((i j : ℕ) → i < j → j < count → Below (row i) (row j)) → (m : ℕ) → m < count → same_row (row m) w ≡ true → Splits row count w m
+met_splits row count w rise m l s = record { within = omega arith; below = λ i h. (belowb_law (row i) w).1 (rw e at (rise i m h l)); others = λ i h k. fails (belowb (row i) w) (belowb_law (row i) w) (go i h k (ℕ_discrete i m)) }
+  where
+    e : row m ≡ w
+    e = (same_row_law (row m) w).0 s
+
+    go : (i : ℕ) → m ≤ i → i < count → Dec (i ≡ m) → Below (row i) w → ⊥
+    go i h k (yes q) b = below_itself w (rw (q, e) at b)
+    go i h k (no q) b = below_itself w (below_trans w (row i) w (rw e at (rise m i (omega arith) k)) b)
 
 -- what is found: a row that is looked up stands where the rows split, or is not there --------------------------------------------------
 

@@ -16,9 +16,11 @@ use Rattle.regions.specs.Values.{row_of}
 use Rattle.regions.specs.declared.region.Region.{Region}
 use Rattle.automata.proofs.Laws.Lists.{length_each, at_each}
 use Rattle.regions.proofs.Laws.Values.{at_out, length_first}
-use Rattle.regions.proofs.Laws.OrderTests.{same_shared, before_shared, Shared, shared_on, shared_here, shared_all, row_same, row_below, length_numbers}
+use Rattle.regions.proofs.Laws.OrderTests.{same_shared, before_shared, Shared, shared_none, shared_on, shared_here, shared_all, row_same, row_below, length_numbers}
 use Rattle.calls.specs.RegionFile.{row_in, row_width}
 use Rattle.calls.proofs.Laws.Rows.{row_width_is}
+use Rattle.listed_rows.proofs.Laws.Firsts.{Firsts}
+use native.Mathlib.Numerals.{add-one}
 use Rattle.listed_rows.specs.Listed.{listed_bytes, HasRow, listed_row}
 
 -- number j of the row in some bytes
@@ -94,16 +96,23 @@ module _ (n : ℕ) (list : List ℕ) (i : ℕ) where
     alike : length ours ≡ length theirs
     alike = numbers_long ∙ sym theirs_long
 
-    -- number by number, where j are shared; x is the byte that the code reads, y the region's number
-    module _ (j : ℕ) (s : Shared ours theirs j) (x y : ℕ) (p : x ≡ at (listed_bytes n list i) (2 + j)) (q : y ≡ at theirs j) where
-      pub byte_shared : j < 1 + 2 * n → x ≡ y → Shared ours theirs (j + 1)
-      byte_shared h e = shared_on ours theirs alike j s (omega (arith, numbers_long)) (listed_number j h ∙ sym p ∙ e ∙ q)
+    -- number by number, where b is what the code reads
+    module _ (b : List ℕ) (e : b ≡ listed_bytes n list i) where
+      number_in : (k : ℕ) → k < 1 + 2 * n → at ours k ≡ at b (2 + k)
+      number_in k h = listed_number k h ∙ sym (ap (λ (l : List ℕ). at l (2 + k)) e)
 
-      pub byte_differs : j < 1 + 2 * n → (x ≡ y → ⊥) → j ≡ shared ours theirs
-      byte_differs h d = shared_here ours theirs alike j s (omega (arith, numbers_long)) (λ e. d (p ∙ sym (listed_number j h) ∙ e ∙ sym q))
+      -- so many are shared
+      shared_so_far : (m : ℕ) → m ≤ 1 + 2 * n → ((k : ℕ) → 0 ≤ k → k < m → at b (2 + k) ≡ at theirs k) → Shared ours theirs m
+      shared_so_far zero h d = shared_none ours theirs
+      shared_so_far (suc m) h d = rw add-one at (shared_on ours theirs alike m (shared_so_far m (omega arith) (λ k a l. d k a (omega arith))) (omega (arith, numbers_long)) (number_in m (omega arith) ∙ d m (omega arith) (omega arith)))
 
-    pub bytes_end : (j : ℕ) → Shared ours theirs j → j ≤ 1 + 2 * n → 1 + 2 * n ≤ j → 1 + 2 * n ≡ shared ours theirs
-    bytes_end j s h l = let e : 1 + 2 * n ≡ j = omega arith in e ∙ shared_all ours theirs alike j s (omega (arith, numbers_long))
+      -- the first that differs, or the end
+      pub shared_firsts : (m : ℕ) → Firsts (λ k. at b (2 + k) ≡ at theirs k → ⊥) (λ k. at b (2 + k) ≡ at theirs k) 0 (1 + 2 * n) m → m ≡ shared ours theirs
+      shared_firsts m F = go (dec_le (1 + 2 * n) m) (shared_so_far m F.within F.before)
+        where
+          go : Dec (1 + 2 * n ≤ m) → Shared ours theirs m → m ≡ shared ours theirs
+          go (yes h) s = shared_all ours theirs alike m s (omega (arith, numbers_long))
+          go (no h) s = shared_here ours theirs alike m s (omega (arith, numbers_long)) (λ q. F.here (omega arith) (sym (number_in m (omega arith)) ∙ q))
 
     rows_alike : length (listed_row n list i).intervals ≡ length (row_of n w).intervals
     rows_alike = intervals_long ∙ sym (length_first n w.intervals few four.0)

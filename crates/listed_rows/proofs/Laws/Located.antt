@@ -1,5 +1,5 @@
 -- The rows of a location stand together in an ascending list. Assumes nothing.
-use Prim.Native.Nat.{ℕ, zero, suc, ◌+◌, ◌≤◌, ◌<◌}
+use Prim.Native.Nat.{ℕ, zero, suc, ◌≤◌, ◌<◌}
 use native.Mathlib.Decide.{dec_le, dec_lt, ℕ_discrete}
 use native.Mathlib.Omega.{arith}
 use mathlib.Core.Path.{◌≡◌, refl}
@@ -70,14 +70,6 @@ module _ (n : ℕ) (list : List ℕ) (count : ℕ) where
           go (yes g) = g
           go (no g) =
               absurd (refutes (belowb (listed_row n list i) (row_of n (least_in l))) (belowb_law (listed_row n list i) (row_of n (least_in l))) (S.others i h k) (inl (omega arith)))
-
--- what holds from start to before i, and of i
-pub one_more : {A : Type 0} (f : ℕ → A) (a : A) (start i : ℕ) → ((j : ℕ) → start ≤ j → j < i → f j ≡ a) → f i ≡ a → (j : ℕ) → start ≤ j → j < i + 1 → f j ≡ a
-one_more f a start i all e j h l = go (ℕ_discrete j i)
-  where
-    go : Dec (j ≡ i) → f j ≡ a
-    go (yes q) = rw q e
-    go (no q) = all j h (omega arith)
 
 -- the rows of a location, and no others, stand from its start to its end ------------------------------------------------------------------
 

@@ -58,56 +58,45 @@ module _ (table : List ℕ) (o : Opened) (h : Opens table o) where
 
 -- work that ends before it has begun ----------------------------------------------------------------------------------------------------------
 
-module _ (table before : List ℕ) (records : ℕ) (s : work_code.Work) where
-  -- with what the definitions refuse
-  refused_ends : (number place : ℕ) → (number ≡ 0 → ⊥) → making table (length before) records ≡ bad number place
-      → Ended table before records (replicate (length before) 0) (refusing s number place)
-  refused_ends number place n e =
-      let (a, b) = make_told table records before e in
-      record { answer = told_is ∙ sym a; buffer = sym b }
-    where
-      told_is : told (refusing s number place) ≡ refused number place
-      told_is = ap (λ (t : Bool). cond t (accepted (s.count % 65536)) (refused number place)) (ne_eqb number 0 n)
+-- with what the definitions refuse
+refused_ends : {table before : List ℕ} {records : ℕ} (s : work_code.Work) (number place : ℕ) → (number ≡ 0 → ⊥) → making table (length before) records ≡ bad number place
+    → Ended table before records (replicate (length before) 0) (refusing s number place)
+refused_ends {table} {before} {records} s number place n e =
+    let (a, b) = make_told table records before e in
+    record { answer = told_is ∙ sym a; buffer = sym b }
+  where
+    told_is : told (refusing s number place) ≡ refused number place
+    told_is = ap (λ (t : Bool). cond t (accepted (s.count % 65536)) (refused number place)) (ne_eqb number 0 n)
 
-  loops_not : (ws : List Region) (number place : ℕ) → (number ≡ 0 → ⊥) → making table (length before) records ≡ bad number place
-      → Loops table before records (replicate (length before) 0) ws (refusing s number place)
-  loops_not ws number place n e = record { goes = λ g. never g; ends = λ _. refused_ends number place n e }
+-- the table's own refusals
+pub begins_not : {table before : List ℕ} {records : ℕ} (s : work_code.Work) (o : Opened) → Opens table o → (o.number ≡ 0 → ⊥)
+    → Ended table before records (replicate (length before) 0) (refusing s o.number o.place)
+begins_not {table} {before} {records} s o h n = refused_ends s o.number o.place n (make_refused table (length before) records (not_opened table o h n))
 
-  -- the buffer is cleared, and the state is that
-  pub refused_as : (ws : List Region) (number place : ℕ) (out : List ℕ) → out ≡ replicate (length before) 0 → (q : work_code.Work) → q ≡ refusing s number place
-      → Loops table before records (replicate (length before) 0) ws (refusing s number place) → Loops table before records out ws q
-  refused_as ws number place out cleared q e L =
-      subst (λ (z : work_code.Work). Loops table before records out ws z) (sym e)
-      (subst (λ (l : List ℕ). Loops table before records l ws (refusing s number place)) (sym cleared) L)
+module _ {table : List ℕ} {head : Head} (D : Describes table head) where
+  abbrev T : Table
+  T = table_of table
 
-  -- the table's own refusals
-  pub begins_not : (ws : List Region) (o : Opened) → Opens table o → (o.number ≡ 0 → ⊥)
-      → Loops table before records (replicate (length before) 0) ws (refusing s o.number o.place)
-  begins_not ws o h n = loops_not ws o.number o.place n (make_refused table (length before) records (not_opened table o h n))
+  reads : (rest : List ℕ) × (admitted table ≡ good T rest)
+  reads = let (k, p) = D.passes in let (rest, e, _) = admission_read table k p in (rest, e)
 
-  module _ (ws : List Region) (head : Head) (D : Describes table head) where
-    abbrev T : Table
-    T = table_of table
+  admits : Admitted T
+  admits = let (k, p) = D.passes in admission_admitted table k p
 
-    reads : (rest : List ℕ) × (admitted table ≡ good T rest)
-    reads = let (k, p) = D.passes in let (rest, e, _) = admission_read table k p in (rest, e)
-
-    admits : Admitted T
-    admits = let (k, p) = D.passes in admission_admitted table k p
-
+  module _ {before : List ℕ} {records : ℕ} (s : work_code.Work) where
     -- too few waiting records
-    pub begins_short : records < 4096 → Loops table before records (replicate (length before) 0) ws (refusing s 20 0)
-    begins_short h = let (rest, e) = reads in loops_not ws 20 0 (λ q. omega arith) (make_short table e (length before) records (inr (inr h)))
+    pub begins_short : records < 4096 → Ended table before records (replicate (length before) 0) (refusing s 20 0)
+    begins_short h = let (rest, e) = reads in refused_ends s 20 0 (λ q. omega arith) (make_short table e (length before) records (inr (inr h)))
 
     -- no room for the header
-    pub begins_headless : length before < 4 → Loops table before records (replicate (length before) 0) ws (refusing s 20 0)
-    begins_headless h = let (rest, e) = reads in loops_not ws 20 0 (λ q. omega arith) (make_overfull table e (length before) records [] tt (λ r i. absurd (Memᴰ.not-nil i)) (inr (omega arith)))
+    pub begins_headless : length before < 4 → Ended table before records (replicate (length before) 0) (refusing s 20 0)
+    begins_headless h = let (rest, e) = reads in refused_ends s 20 0 (λ q. omega arith) (make_overfull table e (length before) records [] tt (λ r i. absurd (Memᴰ.not-nil i)) (inr (omega arith)))
 
     -- the initial location is final
-    pub begins_final : 4 ≤ length before → 4096 ≤ records → final T T.initial ≡ true → Loops table before records (replicate (length before) 0) ws (refusing s 21 0)
+    pub begins_final : 4 ≤ length before → 4096 ≤ records → final T T.initial ≡ true → Ended table before records (replicate (length before) 0) (refusing s 21 0)
     begins_final room enough f =
         let (rest, e) = reads in
-        loops_not ws 21 0 (λ q. omega arith) (make_entered table e (length before) records fits (ap (enters T) none ∙ (enters_says T []).1 (inl f)))
+        refused_ends s 21 0 (λ q. omega arith) (make_entered table e (length before) records fits (ap (enters T) none ∙ (enters_says T []).1 (inl f)))
       where
         no_row : {r : Row} → Kept T r → ⊥
         no_row (begun o) = never (sym o ∙ f)
@@ -120,10 +109,10 @@ module _ (table before : List ℕ) (records : ℕ) (s : work_code.Work) where
         fits = ((rw none (omega arith), rw none room), enough)
 
     -- no room for the initial row
-    pub begins_full : final T T.initial ≡ false → length before < 4 + row_width head.clocks.count → Loops table before records (replicate (length before) 0) ws (refusing s 20 0)
+    pub begins_full : final T T.initial ≡ false → length before < 4 + row_width head.clocks.count → Ended table before records (replicate (length before) 0) (refusing s 20 0)
     begins_full o h =
         let (rest, e) = reads in
-        loops_not ws 20 0 (λ q. omega arith) (make_overfull table e (length before) records (first_row T ∷ []) tt are (inr (rw bytes h)))
+        refused_ends s 20 0 (λ q. omega arith) (make_overfull table e (length before) records (first_row T ∷ []) tt are (inr (rw bytes h)))
       where
         are : (r : Row) → Mem r (first_row T ∷ []) → Kept T r
         are r i = rw (Memᴰ.eq_of_singleton i) (begun o)

@@ -30,10 +30,10 @@ use Rattle.automata.proofs.Laws.Kept.{kept_row}
 use Rattle.calls.proofs.Laws.Making.{Fits, list_bytes_length, make_overfull, make_entered, make_rows, make_told}
 use Rattle.making_turns.proofs.Laws.Growing.{grown_kept, grown_enters}
 use Rattle.making_turns.proofs.Laws.Adding.{comes_kept}
-use Rattle.making_turns.proofs.Laws.Standing.{edges_are, grown_as}
+use Rattle.making_turns.proofs.Laws.Standing.{edges_are}
 use Rattle.making_turns.proofs.Laws.Turning.{is_admitted}
 
-module _ (table before : List ℕ) (records : ℕ) (out : List ℕ) (ws : List Region) (s : work_code.Work) (S : Standing table before records out ws s) where
+module _ {table before : List ℕ} {records : ℕ} {out : List ℕ} {ws : List Region} {s : work_code.Work} (S : Standing table before records out ws s) where
   abbrev T : Table
   T = table_of table
 
@@ -50,7 +50,7 @@ module _ (table before : List ℕ) (records : ℕ) (out : List ℕ) (ws : List R
   bytes_of : (xs : List Row) → ((r : Row) → Mem r xs → Kept T r) → length (list_bytes xs) ≡ 4 + length xs * row_width n
   bytes_of xs are =
       subst (λ (w : ℕ). length (list_bytes xs) ≡ 4 + length xs * row_width w) (sym S.describes.count)
-      (list_bytes_length T xs (λ r i. kept_row T (is_admitted table before records out ws s S) (are r i)))
+      (list_bytes_length T xs (λ r i. kept_row T (is_admitted S) (are r i)))
 
   -- one row too many -------------------------------------------------------------------------------------------------------------------------
 
@@ -69,7 +69,7 @@ module _ (table before : List ℕ) (records : ℕ) (out : List ℕ) (ws : List R
 
       kept_or : (r : Row) → (r ≡ row_of n x) ⊎ Mem r rows → Kept T r
       kept_or r (inl q) =
-          rw q (comes_kept T (is_admitted table before records out ws s S) s.head.clocks S.describes.bounds before out s.count s.start s.top s.step s.walking s.entered S.grown
+          rw q (comes_kept T (is_admitted S) s.head.clocks S.describes.bounds before out s.count s.start s.top s.step s.walking s.entered S.grown
           (row_of n x) C)
       kept_or r (inr i) = S.grown.kept r i
 
@@ -91,15 +91,15 @@ module _ (table before : List ℕ) (records : ℕ) (out : List ℕ) (ws : List R
     top_is = omega (arith, S.grown.high)
 
     all_edges : s.step ≡ suc (length T.edges)
-    all_edges = all ∙ ap suc (edges_are table before records out ws s S)
+    all_edges = all ∙ ap suc (edges_are S)
 
     kept_are : kept T ≡ rows
-    kept_are = grown_kept T s.head.clocks before out s.count s.start s.top s.step s.entered (grown_as table before records out ws s S w) all_edges top_is
+    kept_are = grown_kept S.grown w all_edges top_is
 
     enters_are : enters T (kept T) ≡ s.entered
     enters_are =
         ap (enters T) kept_are
-        ∙ grown_enters T s.head.clocks before out s.count s.start s.top s.step s.entered (grown_as table before records out ws s S w) all_edges top_is
+        ∙ grown_enters S.grown w all_edges top_is
 
     rows_length : length (list_bytes rows) ≡ 4 + s.count * row_width n
     rows_length = bytes_of rows S.grown.kept ∙ ap (λ (c : ℕ). 4 + c * row_width n) (listed_length n out s.count)
@@ -147,12 +147,14 @@ pub short_before : (count w : ℕ) (out before : List ℕ) → length out ≡ le
 short_before count w out before e (inl h) = inl h
 short_before count w out before e (inr h) = inr (rw e at h)
 
-module _ (table before : List ℕ) (records : ℕ) (out : List ℕ) (ws : List Region) (s : work_code.Work) where
-  pub refused_loops : (number : ℕ) (q : work_code.Work) → q ≡ refusing s number 0 → (out₀ : List ℕ) → out ≡ replicate (length out₀) 0 → length out₀ ≡ length before
-      → Ended table before records (replicate (length before) 0) (refusing s number 0) → Loops table before records out ws q
-  refused_loops number q e out₀ cleared same E =
+module _ {table before : List ℕ} {records : ℕ} {out : List ℕ} {ws : List Region} (s : work_code.Work) where
+  -- with a refusal, and the buffer cleared
+  pub refused_loops : {number place : ℕ} {q : work_code.Work} (lent : List ℕ) → q ≡ refusing s number place → out ≡ replicate (length lent) 0 → length lent ≡ length before
+      → Ended table before records (replicate (length before) 0) (refusing s number place) → Loops table before records out ws q
+  refused_loops {number} {place} lent e cleared same E =
       subst (λ (z : work_code.Work). Loops table before records out ws z) (sym e)
-      (subst (λ (l : List ℕ). Loops table before records l ws (refusing s number 0)) (sym (cleared ∙ ap (λ (k : ℕ). replicate k 0) same)) (record { goes = λ g. never g; ends = λ _. E }))
+      (subst (λ (l : List ℕ). Loops table before records l ws (refusing s number place)) (sym (cleared ∙ ap (λ (k : ℕ). replicate k 0) same)) (record { goes = λ g. never g; ends = λ _. E }))
 
-  pub ended_loops : (q : work_code.Work) → q ≡ ending s → Ended table before records out (ending s) → Loops table before records out ws q
-  ended_loops q e E = subst (λ (z : work_code.Work). Loops table before records out ws z) (sym e) (record { goes = λ g. never g; ends = λ _. E })
+  -- with the list
+  pub ended_loops : {q : work_code.Work} → q ≡ ending s → Ended table before records out (ending s) → Loops table before records out ws q
+  ended_loops e E = subst (λ (z : work_code.Work). Loops table before records out ws z) (sym e) (record { goes = λ g. never g; ends = λ _. E })

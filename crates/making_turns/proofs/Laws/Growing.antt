@@ -24,7 +24,7 @@ use Rattle.making_turns.specs.Work.{Followed, Walked, Grown}
 use Rattle.automata.proofs.Laws.Kept.{kept_outside, kept_within, kept_is, enters_says}
 use Rattle.next_steps.proofs.Laws.Steps.{all_listed, next_due, due_final, settled_more, due_entered}
 
-module _ (T : Table) (k : Clocks) (before out : List ℕ) (count start top step : ℕ) (e : Bool) where
+module _ {T : Table} {k : Clocks} {before out : List ℕ} {count start top step : ℕ} {walking e : Bool} (G : Grown T k before out count start top step walking e) where
   abbrev rows : List Row
   rows = listed_rows k.count out count
 
@@ -34,42 +34,52 @@ module _ (T : Table) (k : Clocks) (before out : List ℕ) (count start top step 
   abbrev born : ℕ → ℕ
   born i = birth k.count out i
 
+  -- where no row is added, what changes is how far the rows are followed and walked
+  grown_further : {start' top' step' : ℕ} {w' e' : Bool} → (e' ≡ true → Entered T)
+      → start' ≤ top' → top' ≤ count → (w' ≡ true → start' < top') → (w' ≡ false → top' < count)
+      → ((m i : ℕ) → m ≤ length T.edges → plain T m ≡ true → i < count → Followed top' step' w' m (born i) → Settled T rows e' m (row i))
+      → ((m i : ℕ) → m ≤ length T.edges → plain T m ≡ false → i < count → Walked start' top' step' w' m (born i) → Settled T rows e' m (row i))
+      → Grown T k before out count start' top' step' w' e'
+  grown_further enters low high walks follows followed walked = record {
+    listed = G.listed;
+    ascends = G.ascends;
+    births = G.births;
+    born = G.born;
+    kept = G.kept;
+    begun = G.begun;
+    enters = enters;
+    same_length = G.same_length;
+    rest = G.rest;
+    low = low;
+    high = high;
+    walks = walks;
+    follows = follows;
+    followed = followed;
+    walked = walked;
+  }
+
   -- the row at the top is followed further ---------------------------------------------------------------------------------------------------
 
-  module _ (G : Grown T k before out count start top step false e) (r : Row) (tied : (i : ℕ) → i < count → born i ≡ top → row i ≡ r) (q : stride_code.Stride)
-      (F : Follows T rows k.count step r e q) where
+  module _ (v : walking ≡ false) (r : Row) (tied : (i : ℕ) → i < count → born i ≡ top → row i ≡ r) (q : stride_code.Stride) (F : Follows T rows k.count step r e q) where
     -- the row at the top is one of the kept rows
     pub top_listed : Mem r rows
-    top_listed = let (i, h, b) = G.born top (G.follows refl) in rw (tied i h b) at (listed_in k.count out count i h)
+    top_listed = let (i, h, b) = G.born top (G.follows v) in rw (tied i h b) at (listed_in k.count out count i h)
 
-    pub grown_followed : Grown T k before out count start top q.step false q.entered
-    grown_followed = record {
-      listed = G.listed;
-      ascends = G.ascends;
-      births = G.births;
-      born = G.born;
-      kept = G.kept;
-      begun = G.begun;
-      enters = λ h. entered (F.enters h);
-      same_length = G.same_length;
-      rest = G.rest;
-      low = G.low;
-      high = G.high;
-      walks = G.walks;
-      follows = G.follows;
-      followed = λ m i h p l f. go m i h p l f;
-      walked = λ m i h p l f. settled_more T rows rows e q.entered m (row i) (λ x y. y) F.stays (G.walked m i h p l (before_walked m i f));
-    }
+    pub grown_followed : Grown T k before out count start top q.step walking q.entered
+    grown_followed =
+        grown_further (λ h. entered (F.enters h)) G.low G.high G.walks G.follows
+        go
+        (λ m i h p l f. settled_more T rows rows e q.entered m (row i) (λ x y. y) F.stays (G.walked m i h p l (before_walked m i f)))
       where
         entered : (e ≡ true) ⊎ ((m : ℕ) × (m ≤ length T.edges) × (s : Row) × Mem s (due T m r) × (into_final T m ≡ true)) → Entered T
         entered (inl h) = G.enters h
         entered (inr (m, h, s, i, f)) = due_entered T m r s (G.kept r top_listed) h i f
 
-        before_walked : (m i : ℕ) → Walked start top q.step false m (born i) → Walked start top step false m (born i)
+        before_walked : (m i : ℕ) → Walked start top q.step walking m (born i) → Walked start top step walking m (born i)
         before_walked m i (inl h) = inl h
-        before_walked m i (inr (h, _, _)) = never h
+        before_walked m i (inr (h, _, _)) = never (sym v ∙ h)
 
-        go : (m i : ℕ) → m ≤ length T.edges → plain T m ≡ true → i < count → Followed top q.step false m (born i) → Settled T rows q.entered m (row i)
+        go : (m i : ℕ) → m ≤ length T.edges → plain T m ≡ true → i < count → Followed top q.step walking m (born i) → Settled T rows q.entered m (row i)
         go m i h p l (inl b) = settled_more T rows rows e q.entered m (row i) (λ x y. y) F.stays (G.followed m i h p l (inl b))
         go m i h p l (inr (b, w, s)) = at_step (dec_lt m step)
           where
@@ -79,62 +89,36 @@ module _ (T : Table) (k : Clocks) (before out : List ℕ) (count start top step 
 
   -- the next row is followed, or the rows are walked ------------------------------------------------------------------------------------------
 
-  module _ (G : Grown T k before out count start top step false e) (all : step ≡ suc (length T.edges)) where
-    all_followed : (walking : Bool) (at : ℕ) → at ≤ 1 → (m i : ℕ) → m ≤ length T.edges → plain T m ≡ true → i < count → born i < suc top → Settled T rows e m (row i)
-    all_followed walking at a m i h p l b = go (ℕ_discrete (born i) top)
+  module _ (v : walking ≡ false) (all : step ≡ suc (length T.edges)) where
+    all_followed : (m i : ℕ) → m ≤ length T.edges → plain T m ≡ true → i < count → born i < suc top → Settled T rows e m (row i)
+    all_followed m i h p l b = go (ℕ_discrete (born i) top)
       where
         go : Dec (born i ≡ top) → Settled T rows e m (row i)
-        go (yes c) = G.followed m i h p l (inr (c, refl, omega arith))
+        go (yes c) = G.followed m i h p l (inr (c, v, omega arith))
         go (no c) = G.followed m i h p l (inl (omega arith))
 
-    pub grown_next : suc top < count → Grown T k before out count start (suc top) 0 false e
-    grown_next h = record {
-      listed = G.listed;
-      ascends = G.ascends;
-      births = G.births;
-      born = G.born;
-      kept = G.kept;
-      begun = G.begun;
-      enters = G.enters;
-      same_length = G.same_length;
-      rest = G.rest;
-      low = omega (arith, G.low);
-      high = omega arith;
-      walks = λ w. never w;
-      follows = λ w. h;
-      followed = λ m i a p l f. go m i a p l f;
-      walked = λ m i a p l f. G.walked m i a p l (back m i f);
-    }
+    pub grown_next : suc top < count → Grown T k before out count start (suc top) 0 walking e
+    grown_next h =
+        grown_further G.enters (omega (arith, G.low)) (omega arith) (λ w. never (sym v ∙ w)) (λ w. h)
+        go
+        (λ m i a p l f. G.walked m i a p l (back m i f))
       where
-        go : (m i : ℕ) → m ≤ length T.edges → plain T m ≡ true → i < count → Followed (suc top) 0 false m (born i) → Settled T rows e m (row i)
-        go m i a p l (inl b) = all_followed false 0 (omega arith) m i a p l b
+        go : (m i : ℕ) → m ≤ length T.edges → plain T m ≡ true → i < count → Followed (suc top) 0 walking m (born i) → Settled T rows e m (row i)
+        go m i a p l (inl b) = all_followed m i a p l b
         go m i a p l (inr (b, w, s)) = absurd (omega arith)
 
-        back : (m i : ℕ) → Walked start (suc top) 0 false m (born i) → Walked start top step false m (born i)
+        back : (m i : ℕ) → Walked start (suc top) 0 walking m (born i) → Walked start top step walking m (born i)
         back m i (inl b) = inl b
-        back m i (inr (w, _, _)) = never w
+        back m i (inr (w, _, _)) = never (sym v ∙ w)
 
     pub grown_walks : suc top ≡ count → Grown T k before out count start (suc top) 1 true e
-    grown_walks h = record {
-      listed = G.listed;
-      ascends = G.ascends;
-      births = G.births;
-      born = G.born;
-      kept = G.kept;
-      begun = G.begun;
-      enters = G.enters;
-      same_length = G.same_length;
-      rest = G.rest;
-      low = omega (arith, G.low);
-      high = omega arith;
-      walks = λ w. omega (arith, G.low);
-      follows = λ w. never (sym w);
-      followed = λ m i a p l f. go m i a p l f;
-      walked = λ m i a p l f. again m i a p l f;
-    }
+    grown_walks h =
+        grown_further G.enters (omega (arith, G.low)) (omega arith) (λ w. omega (arith, G.low)) (λ w. never (sym w))
+        go
+        again
       where
         go : (m i : ℕ) → m ≤ length T.edges → plain T m ≡ true → i < count → Followed (suc top) 1 true m (born i) → Settled T rows e m (row i)
-        go m i a p l (inl b) = all_followed true 1 (omega arith) m i a p l b
+        go m i a p l (inl b) = all_followed m i a p l b
         go m i a p l (inr (b, w, s)) = never (sym w)
 
         again : (m i : ℕ) → m ≤ length T.edges → plain T m ≡ false → i < count → Walked start (suc top) 1 true m (born i) → Settled T rows e m (row i)
@@ -144,31 +128,18 @@ module _ (T : Table) (k : Clocks) (before out : List ℕ) (count start top step 
 
   -- the rows are walked further -----------------------------------------------------------------------------------------------------------------
 
-  module _ (G : Grown T k before out count start top step true e) where
-    pub grown_walked : (q : stride_code.Stride) → Walks T rows k.count step q → Grown T k before out count start top q.step true e
-    grown_walked q W = record {
-      listed = G.listed;
-      ascends = G.ascends;
-      births = G.births;
-      born = G.born;
-      kept = G.kept;
-      begun = G.begun;
-      enters = G.enters;
-      same_length = G.same_length;
-      rest = G.rest;
-      low = G.low;
-      high = G.high;
-      walks = G.walks;
-      follows = G.follows;
-      followed = λ m i a p l f. G.followed m i a p l (back m i f);
-      walked = λ m i a p l f. go m i a p l f;
-    }
+  module _ (v : walking ≡ true) where
+    pub grown_walked : (q : stride_code.Stride) → Walks T rows k.count step q → Grown T k before out count start top q.step walking e
+    grown_walked q W =
+        grown_further G.enters G.low G.high G.walks G.follows
+        (λ m i a p l f. G.followed m i a p l (back m i f))
+        go
       where
-        back : (m i : ℕ) → Followed top q.step true m (born i) → Followed top step true m (born i)
+        back : (m i : ℕ) → Followed top q.step walking m (born i) → Followed top step walking m (born i)
         back m i (inl b) = inl b
-        back m i (inr (_, w, _)) = never (sym w)
+        back m i (inr (_, w, _)) = never (sym w ∙ v)
 
-        go : (m i : ℕ) → m ≤ length T.edges → plain T m ≡ false → i < count → Walked start top q.step true m (born i) → Settled T rows e m (row i)
+        go : (m i : ℕ) → m ≤ length T.edges → plain T m ≡ false → i < count → Walked start top q.step walking m (born i) → Settled T rows e m (row i)
         go m i a p l (inl b) = G.walked m i a p l (inl b)
         go m i a p l (inr (w, b, s)) = at_step (dec_lt m step)
           where
@@ -178,26 +149,13 @@ module _ (T : Table) (k : Clocks) (before out : List ℕ) (count start top step 
 
     module _ (all : step ≡ suc (length T.edges)) where
       all_walked : (m i : ℕ) → m ≤ length T.edges → plain T m ≡ false → i < count → born i < top → Settled T rows e m (row i)
-      all_walked m i a p l b = G.walked m i a p l (inr (refl, b, omega arith))
+      all_walked m i a p l b = G.walked m i a p l (inr (v, b, omega arith))
 
       pub grown_on : top < count → Grown T k before out count top top 0 false e
-      grown_on h = record {
-        listed = G.listed;
-        ascends = G.ascends;
-        births = G.births;
-        born = G.born;
-        kept = G.kept;
-        begun = G.begun;
-        enters = G.enters;
-        same_length = G.same_length;
-        rest = G.rest;
-        low = omega arith;
-        high = G.high;
-        walks = λ w. never w;
-        follows = λ w. h;
-        followed = λ m i a p l f. go m i a p l f;
-        walked = λ m i a p l f. again m i a p l f;
-      }
+      grown_on h =
+          grown_further G.enters (omega arith) G.high (λ w. never w) (λ w. h)
+          go
+          again
         where
           go : (m i : ℕ) → m ≤ length T.edges → plain T m ≡ true → i < count → Followed top 0 false m (born i) → Settled T rows e m (row i)
           go m i a p l (inl b) = G.followed m i a p l (inl b)

@@ -14,6 +14,7 @@ use Rattle.automata.specs.Checks.{every, has}
 use Rattle.automata.proofs.Laws.Tests.{never}
 use Rattle.regions.specs.Values.{row_of, bounds_of}
 use Rattle.regions.specs.declared.region.Region.{Region}
+use Rattle.regions.specs.declared.region.Sought.{Sought}
 use Rattle.table_files.specs.Admission.{table_of}
 use Rattle.tables.specs.Bounds.{edge_start}
 use Rattle.listed_rows.specs.Listed.{listed_row, listed_rows}
@@ -25,7 +26,7 @@ use Rattle.making_turns.specs.Work.{blank, Grown, stored, Standing, Working, Loo
 use Rattle.next_steps.proofs.Laws.Steps.{settled_walked}
 use Rattle.making_turns.proofs.Laws.Growing.{top_listed, grown_followed, grown_next, grown_walks, grown_walked, grown_on}
 
-module _ (table before : List ℕ) (records : ℕ) (out : List ℕ) (ws : List Region) (s : work_code.Work) (S : Standing table before records out ws s) where
+module _ {table before : List ℕ} {records : ℕ} {out : List ℕ} {ws : List Region} {s : work_code.Work} (S : Standing table before records out ws s) where
   abbrev n : ℕ
   n = s.head.clocks.count
 
@@ -35,8 +36,28 @@ module _ (table before : List ℕ) (records : ℕ) (out : List ℕ) (ws : List R
   abbrev At : ℕ → ℕ → ℕ → Bool → Bool → Type 0
   At start top step walking entered = Grown (table_of table) s.head.clocks before out s.count start top step walking entered
 
-  pub grown_as : {w : Bool} → s.walking ≡ w → At s.start s.top s.step w s.entered
-  grown_as q = subst (λ (w : Bool). At s.start s.top s.step w s.entered) q S.grown
+  -- where a turn wants no row to be stored, what changes is how far the rows are followed and walked
+  stands_further : {take start top step here : ℕ} {walking entered : Bool} {from floor : Sought} → At start top step walking entered → step ≤ suc s.head.edges
+      → ((j : ℕ) → step ≡ suc j → here ≡ edge_start n s.head.locations table j) → (walking ≡ true → 1 ≤ step) → (from.found ≡ true → Mem (row_of n from.region) rows)
+      → take < records → (walking ≡ false → take ≡ top)
+      → Standing table before records out ws (record s { take = take; start = start; top = top; walking = walking; step = step; here = here; «from» = from; floor = floor; entered = entered })
+  stands_further grown step_in stands edge_next walked_from take_in takes = record {
+    describes = S.describes;
+    grown = grown;
+    on = S.on;
+    unrefused = S.unrefused;
+    step_in = step_in;
+    stands = stands;
+    edge_next = edge_next;
+    walked_from = walked_from;
+    sized = S.sized;
+    enough = S.enough;
+    place_in = S.place_in;
+    again = S.again;
+    take_in = take_in;
+    takes = takes;
+    tied = S.tied;
+  }
 
   -- how many edges there are
   pub edges_are : s.head.edges ≡ length (table_of table).edges
@@ -74,7 +95,7 @@ module _ (table before : List ℕ) (records : ℕ) (out : List ℕ) (ws : List R
   module _ (w : s.walking ≡ false) (r : Region) (e : r ≡ get_or ws s.take blank) (q : stride_code.Stride)
       (F : Follows (table_of table) rows n s.step (row_of n r) s.entered q) where
     pub taken_listed : Mem (row_of n r) rows
-    taken_listed = top_listed (table_of table) s.head.clocks before out s.count s.start s.top s.step s.entered (grown_as w) (row_of n r) (taken_tied w r e) q F
+    taken_listed = top_listed S.grown w (row_of n r) (taken_tied w r e) q F
 
     stride_in : q.step ≤ suc s.head.edges
     stride_in = go q.next.found refl
@@ -84,25 +105,8 @@ module _ (table before : List ℕ) (records : ℕ) (out : List ℕ) (ws : List R
         go false f = omega (arith, F.all f, edges_are)
 
     pub followed_stands : ((j : ℕ) → q.step ≡ suc j → q.here ≡ edge_start n s.head.locations table j) → Standing table before records out ws (went s q)
-    followed_stands h = record {
-      describes = S.describes;
-      grown =
-          subst (λ (v : Bool). At s.start s.top q.step v q.entered) (sym w)
-          (grown_followed (table_of table) s.head.clocks before out s.count s.start s.top s.step s.entered (grown_as w) (row_of n r) (taken_tied w r e) q F);
-      on = S.on;
-      unrefused = S.unrefused;
-      step_in = stride_in;
-      stands = h;
-      edge_next = λ v. never (sym w ∙ v);
-      walked_from = λ v. never (sym F.none_from ∙ v);
-      sized = S.sized;
-      enough = S.enough;
-      place_in = S.place_in;
-      again = S.again;
-      take_in = S.take_in;
-      takes = S.takes;
-      tied = S.tied;
-    }
+    followed_stands h =
+        stands_further (grown_followed S.grown w (row_of n r) (taken_tied w r e) q F) stride_in h (λ v. never (sym w ∙ v)) (λ v. never (sym F.none_from ∙ v)) S.take_in S.takes
 
     pub followed_comes : (f : q.next.found ≡ true) → Comes (table_of table) rows (row_of n q.next.region)
     followed_comes f = record { by = q.step; parent = row_of n r; listed = taken_listed; is_new = F.new f }
@@ -123,98 +127,33 @@ module _ (table before : List ℕ) (records : ℕ) (out : List ℕ) (ws : List R
         go false f = omega (arith, W.all f, edges_are)
 
     pub walked_stands : ((j : ℕ) → q.step ≡ suc j → q.here ≡ edge_start n s.head.locations table j) → Standing table before records out ws (went s q)
-    walked_stands h = record {
-      describes = S.describes;
-      grown =
-          subst (λ (v : Bool). At s.start s.top q.step v q.entered) (sym w)
-          (subst (λ (v : Bool). At s.start s.top q.step true v) (sym u)
-          (grown_walked (table_of table) s.head.clocks before out s.count s.start s.top s.step s.entered (grown_as w) q W));
-      on = S.on;
-      unrefused = S.unrefused;
-      step_in = walk_in;
-      stands = h;
-      edge_next = λ v. omega (arith, W.on, S.edge_next v);
-      walked_from = W.from;
-      sized = S.sized;
-      enough = S.enough;
-      place_in = S.place_in;
-      again = S.again;
-      take_in = S.take_in;
-      takes = S.takes;
-      tied = S.tied;
-    }
+    walked_stands h =
+        stands_further
+        (subst (λ (v : Bool). At s.start s.top q.step s.walking v) (sym u) (grown_walked S.grown w q W))
+        walk_in h (λ v. omega (arith, W.on, S.edge_next v)) W.from S.take_in S.takes
 
     pub walked_comes : (f : q.next.found ≡ true) → Comes (table_of table) rows (row_of n q.next.region)
     walked_comes f = let (r, i, N) = W.new f in record { by = q.step; parent = r; listed = i; is_new = N }
 
   -- from row to row, and from rows to walks -------------------------------------------------------------------------------------------------------
 
-  -- the waiting list has room for all rows
-  pub top_in : s.top < s.count → s.top < records
-  top_in h = omega (arith, S.grown.listed.short, S.enough)
-
   module _ (w : s.walking ≡ false) (all : s.step ≡ suc s.head.edges) where
     all_edges : s.step ≡ suc (length (table_of table).edges)
     all_edges = all ∙ ap suc edges_are
 
     pub next_stands : s.top + 1 < s.count → Standing table before records out ws (next_row s)
-    next_stands h = record {
-      describes = S.describes;
-      grown =
-          subst (λ (v : Bool). At s.start (s.top + 1) 0 v s.entered) (sym w) (subst (λ (t : ℕ). At s.start t 0 false s.entered) (sym (add-one s.top))
-          (grown_next (table_of table) s.head.clocks before out s.count s.start s.top s.step s.entered (grown_as w) all_edges (omega arith)));
-      on = S.on;
-      unrefused = S.unrefused;
-      step_in = omega arith;
-      stands = λ j q. absurd (omega arith);
-      edge_next = λ v. never (sym w ∙ v);
-      walked_from = S.walked_from;
-      sized = S.sized;
-      enough = S.enough;
-      place_in = S.place_in;
-      again = S.again;
-      take_in = omega (arith, S.grown.listed.short, S.enough);
-      takes = λ v. refl;
-      tied = S.tied;
-    }
+    next_stands h =
+        stands_further
+        (subst (λ (t : ℕ). At s.start t 0 s.walking s.entered) (sym (add-one s.top)) (grown_next S.grown w all_edges (omega arith)))
+        (omega arith) (λ j q. absurd (omega arith)) (λ v. never (sym w ∙ v)) S.walked_from (omega (arith, S.grown.listed.short, S.enough)) (λ v. refl)
 
     pub walks_stand : s.count ≤ s.top + 1 → (first : ℕ) → first ≡ edge_start n s.head.locations table 0 → Standing table before records out ws (to_walks s first)
-    walks_stand h first e = record {
-      describes = S.describes;
-      grown =
-          subst (λ (t : ℕ). At s.start t 1 true s.entered) (sym (add-one s.top))
-          (grown_walks (table_of table) s.head.clocks before out s.count s.start s.top s.step s.entered (grown_as w) all_edges (omega (arith, S.grown.follows w)));
-      on = S.on;
-      unrefused = S.unrefused;
-      step_in = omega arith;
-      stands = λ j q. let z : 0 ≡ j = omega arith in rw (← z) e;
-      edge_next = λ v. omega arith;
-      walked_from = S.walked_from;
-      sized = S.sized;
-      enough = S.enough;
-      place_in = S.place_in;
-      again = S.again;
-      take_in = S.take_in;
-      takes = λ v. never (sym v);
-      tied = S.tied;
-    }
+    walks_stand h first e =
+        stands_further
+        (subst (λ (t : ℕ). At s.start t 1 true s.entered) (sym (add-one s.top)) (grown_walks S.grown w all_edges (omega (arith, S.grown.follows w))))
+        (omega arith) (λ j q. let z : 0 ≡ j = omega arith in rw (← z) e) (λ v. omega arith) S.walked_from S.take_in (λ v. never (sym v))
 
   module _ (w : s.walking ≡ true) (all : s.step ≡ suc s.head.edges) where
     pub rows_stand : s.top < s.count → Standing table before records out ws (to_rows s)
-    rows_stand h = record {
-      describes = S.describes;
-      grown = grown_on (table_of table) s.head.clocks before out s.count s.start s.top s.step s.entered (grown_as w) (all ∙ ap suc edges_are) h;
-      on = S.on;
-      unrefused = S.unrefused;
-      step_in = omega arith;
-      stands = λ j q. absurd (omega arith);
-      edge_next = λ v. never v;
-      walked_from = S.walked_from;
-      sized = S.sized;
-      enough = S.enough;
-      place_in = S.place_in;
-      again = S.again;
-      take_in = omega (arith, S.grown.listed.short, S.enough);
-      takes = λ v. refl;
-      tied = S.tied;
-    }
+    rows_stand h =
+        stands_further (grown_on S.grown w (all ∙ ap suc edges_are) h) (omega arith) (λ j q. absurd (omega arith)) (λ v. never v) S.walked_from (omega (arith, S.grown.listed.short, S.enough)) (λ v. refl)

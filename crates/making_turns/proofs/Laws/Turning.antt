@@ -25,7 +25,7 @@ use Rattle.making_turns.specs.declared.work.Work as work_code
 use Rattle.making_turns.specs.Work.{blank, Grown, Tied, left, Standing, Loops, went, next_row, to_walks, to_rows, adding, refusing, ending, Comes}
 use Rattle.making_turns.proofs.Laws.Adding.{comes_row, grown_added, tied_added}
 
-module _ (table before : List ℕ) (records : ℕ) (out : List ℕ) (ws : List Region) (s : work_code.Work) (S : Standing table before records out ws s) where
+module _ {table before : List ℕ} {records : ℕ} {out : List ℕ} {ws : List Region} {s : work_code.Work} (S : Standing table before records out ws s) where
   abbrev n : ℕ
   n = s.head.clocks.count
 

@@ -1,7 +1,7 @@
 -- What is found of some next rows. Assumes nothing.
 use Prim.Native.Nat.{ℕ}
 use mathlib.Core.Path.{◌≡◌, refl, sym, ap, subst, ◌∙◌}
-use mathlib.Core.Bool.{Bool, true, false, ◌&&◌}
+use mathlib.Core.Bool.{Bool, true, false}
 use mathlib.Core.Option.{none}
 use mathlib.Core.List.Memᴰ
 use mathlib.Core.List.{List, [], ◌∷◌}
@@ -24,10 +24,6 @@ module _ (n : ℕ) (next rows : List Row) (s : Sought) where
 
   pub missing_new : s ≡ sought none → every (has rows) next ≡ true → NewOf n next rows s
   missing_new g = none_new (ap (λ (t : Sought). t.found) g)
-
-  -- .. as was asked
-  pub missing_inside : s ≡ sought none → (b : Bool) → b ≡ every (has rows) next → b ≡ true → NewOf n next rows s
-  missing_inside g b e h = missing_new g (sym e ∙ h)
 
   -- one is that the list lacks
   pub one_new : s.found ≡ true → Mem (row_of n s.region) next → has rows (row_of n s.region) ≡ false → NewOf n next rows s
@@ -65,10 +61,6 @@ module _ (n : ℕ) (rows : List Row) (s : Sought) where
         go : (b : Bool) → b ≡ true → held (found_of n (record { found = b; region = s.region })) ≡ row_of n s.region ∷ []
         go true h = refl
         go false h = never h
-
-    pub sole_listed : (b : Bool) → b ≡ has rows (row_of n s.region) → b ≡ true → (r : Sought) → r ≡ sought none → NewOf n (held (found_of n s)) rows r
-    sole_listed b e h r g =
-        missing_new n (held (found_of n s)) rows r g (ap (every (has rows)) sole ∙ ap (λ (a : Bool). a && true) (sym e ∙ h))
 
     pub sole_new : (b : Bool) → b ≡ has rows (row_of n s.region) → b ≡ false → NewOf n (held (found_of n s)) rows s
     sole_new b e h =

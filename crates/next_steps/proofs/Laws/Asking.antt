@@ -2,7 +2,7 @@
 use Prim.Native.Nat.{ℕ, suc, ◌<◌}
 use native.Mathlib.Omega.{arith}
 use mathlib.Core.Path.{◌≡◌, refl, sym, ap, ◌∙◌}
-use mathlib.Core.Bool.{Bool, true, false, ◌||◌}
+use mathlib.Core.Bool.{Bool, true, false}
 use mathlib.Core.Logic.{inl, inr}
 use mathlib.Core.Option.{none}
 use mathlib.Core.List.{List, []}
@@ -15,11 +15,9 @@ use Rattle.automata.specs.Successors.{wait_rows, edge_rows}
 use Rattle.automata.specs.Checks.{every, has}
 use Rattle.automata.proofs.Laws.Tests.{never}
 use Rattle.automata.proofs.Laws.Next.{time_successors_are, edge_successors_are}
-use Rattle.regions.specs.Image.{deterministic}
 use Rattle.regions.specs.Values.{bounds_of, edge_of, sought}
 use Rattle.regions.specs.declared.region.Sought.{Sought}
 use Rattle.regions.specs.declared.edge.Edge as edge_code
-use Rattle.skylines.proofs.Laws.NoNext.{edge_elsewhere}
 use Rattle.table_files.specs.Admission.{table_of}
 use Rattle.table_files.proofs.Laws.Admission.{admission_admitted}
 use Rattle.table_records.specs.declared.head.Head.{Head}
@@ -58,13 +56,10 @@ module _ (table : List ℕ) (head : Head) (D : Describes table head) where
     pub led_are : (r : Row) → due T (suc j) r ≡ edge_rows (bounds_of head.clocks) (edge_of n e) r
     led_are r = rw (D.bounds, means) (edge_successors_are T j r)
 
-    pub plain_is : plain T (suc j) ≡ (final T e.target || deterministic n (edge_of n e))
-    plain_is i = final T (sym means i).target || deterministic (sym D.count i) (sym means i)
+    settled_led : (rows : List Row) (r : Row) (entered : Bool) → every (has rows) (edge_rows (bounds_of head.clocks) (edge_of n e) r) ≡ true → Settled T rows entered (suc j) r
+    settled_led rows r entered h = inr (rw (led_are r) h)
 
-    module _ (rows : List Row) (r : Row) where
-      settled_led : (entered : Bool) → every (has rows) (edge_rows (bounds_of head.clocks) (edge_of n e) r) ≡ true → Settled T rows entered (suc j) r
-      settled_led entered h = inr (rw (led_are r) h)
-
+    module _ {rows : List Row} {r : Row} where
       -- where nothing is found and nothing more is entered, the row has to be settled
       asks_none : (entered : Bool) → (plain T (suc j) ≡ true → Settled T rows entered (suc j) r) → (q : Sought) → q ≡ sought none
           → Asks T rows n (suc j) r entered q entered
@@ -75,38 +70,25 @@ module _ (table : List ℕ) (head : Head) (D : Describes table head) where
         enters = λ h. inl h;
       }
 
-      -- it leaves from elsewhere
-      pub asks_elsewhere : (r.location ≡ e.source → ⊥) → (entered : Bool) (q : Sought) → q ≡ sought none → Asks T rows n (suc j) r entered q entered
-      asks_elsewhere h entered q m =
-          asks_none entered (λ _. settled_led entered (sym (edge_elsewhere (bounds_of head.clocks) (edge_of n e) r (has rows) h))) q m
-
-      -- it leads into a final location, and one is entered already
-      pub asks_entered : final T e.target ≡ true → (q : Sought) → q ≡ sought none → Asks T rows n (suc j) r true q true
-      asks_entered f q m = asks_none true (λ _. inl (sym target_is ∙ f, refl)) q m
-
       -- it leads into a final location, if it leads anywhere
-      pub asks_final : final T e.target ≡ true → (leads : Bool)
+      pub asks_final : final T e.target ≡ true → (entered : Bool) → entered ≡ false → (leads : Bool)
           → (leads ≡ true → (x : Row) × Mem x (edge_rows (bounds_of head.clocks) (edge_of n e) r))
           → (leads ≡ false → edge_rows (bounds_of head.clocks) (edge_of n e) r ≡ [])
-          → (q : Sought) → q ≡ sought none → Asks T rows n (suc j) r false q leads
-      asks_final f true some nothing q m = record {
+          → (q : Sought) → q ≡ sought none → Asks T rows n (suc j) r entered q leads
+      asks_final f entered t true some nothing q m = record {
         settled = λ _ p. inl (sym target_is ∙ f, refl);
         new = λ g. never (sym (ap (λ (x : Sought). x.found) m) ∙ g);
         stays = λ h. refl;
         enters = λ h. let (x, i) = some refl in inr (x, rw (led_are r) i, sym target_is ∙ f);
       }
-      asks_final f false some nothing q m = asks_none false (λ _. settled_led false (rw (nothing refl) refl)) q m
+      asks_final f entered t false some nothing q m = rw t (asks_none false (λ _. settled_led rows r false (rw (nothing refl) refl)) q m)
 
       -- it leads to one row at most
       pub asks_image : final T e.target ≡ false → (entered : Bool) (q : Sought) → NewOf n (edge_rows (bounds_of head.clocks) (edge_of n e) r) rows q
           → Asks T rows n (suc j) r entered q entered
       asks_image f entered q N = record {
-        settled = λ g p. settled_led entered (N.none g);
+        settled = λ g p. settled_led rows r entered (N.none g);
         new = λ g. record { in_range = edge_there; is_due = rw (led_are r) (N.next_row g); is_new = N.new g; outside = sym target_is ∙ f };
         stays = λ h. h;
         enters = λ h. inl h;
       }
-
-      -- it is not plain
-      pub asks_not : final T e.target ≡ false → deterministic n (edge_of n e) ≡ false → (entered : Bool) (q : Sought) → q ≡ sought none → Asks T rows n (suc j) r entered q entered
-      asks_not f d entered q m = asks_none entered (λ p. never (sym (plain_is ∙ (λ i. f i || d i)) ∙ p)) q m

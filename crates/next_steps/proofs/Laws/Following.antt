@@ -36,18 +36,26 @@ pub step_above : (step : ℕ) → (step ≡ 0 → ⊥) → (j : ℕ) × (step �
 step_above zero h = absurd (h refl)
 step_above (suc j) h = (j, refl)
 
--- a step that is an edge, and the next one
 module _ (table : List ℕ) (head : Head) where
-  pub step_edge : (k p : ℕ) → 1 ≤ k → k ≤ head.edges → Begins table head k p
-      → (j : ℕ) × (j < head.edges) × (p ≡ edge_start head.clocks.count head.locations table j)
-  step_edge zero p h l b = absurd (omega arith)
-  step_edge (suc j) p h l b = (j, omega arith, b j refl)
+  pub begins : (step p : ℕ) → (j : ℕ) × (step ≡ suc j) × (p ≡ edge_start head.clocks.count head.locations table j) → Begins table head step p
+  begins step p (j, q, h) i z =
+      let w : j ≡ i = omega arith in
+      subst (λ (t : ℕ). p ≡ edge_start head.clocks.count head.locations table t) w h
 
-  pub at_step : (k p : ℕ) (h : 1 ≤ k) (l : k ≤ head.edges) (b : Begins table head k p) → suc (step_edge k p h l b).0 ≡ k
-  unfolding step_edge
-  at_step zero p h l b = absurd (omega arith)
-  at_step (suc j) p h l b = refl
+  -- a step that is an edge: what is said of that edge is said of the step
+  module _ (k p : ℕ) (h : 1 ≤ k) (l : k < head.edges + 1) (b : Begins table head k p) where
+    pub step_edge : (j : ℕ) × (suc j ≡ k) × (j < head.edges) × (p ≡ edge_start head.clocks.count head.locations table j)
+    step_edge = go k h l b
+      where
+        go : (k : ℕ) → 1 ≤ k → k < head.edges + 1 → Begins table head k p
+            → (j : ℕ) × (suc j ≡ k) × (j < head.edges) × (p ≡ edge_start head.clocks.count head.locations table j)
+        go zero h l b = absurd (omega arith)
+        go (suc j) h l b = (j, refl, omega arith, b j refl)
 
+    pub at_step : (P : ℕ → Type 0) → ((j : ℕ) → j < head.edges → p ≡ edge_start head.clocks.count head.locations table j → P (suc j)) → P k
+    at_step P f = let (j, e, i, m) = step_edge in subst P e (f j i m)
+
+  -- the next one
   pub step_next : (k p p' : ℕ) → 1 ≤ k → Begins table head k p → p' ≡ after_edge head.clocks.count table p → Begins table head (k + 1) p'
   step_next zero p p' h b e j q = absurd (omega arith)
   step_next (suc i) p p' h b e j q =
@@ -63,19 +71,9 @@ pub record Along (T : Table) (rows : List Row) (r : Row) (step : ℕ) (entered :
   pub stays : entered ≡ true → seen ≡ true
   pub enters : seen ≡ true → (entered ≡ true) ⊎ ((m : ℕ) × (m ≤ length T.edges) × (s : Row) × Mem s (due T m r) × (into_final T m ≡ true))
 
-module _ (T : Table) (rows : List Row) (n : ℕ) (r : Row) (step : ℕ) (entered : Bool) where
-  pub along_start : 1 ≤ step → step ≤ suc (length T.edges) → Along T rows r step entered step entered
-  along_start h l = record {
-    above = h;
-    on = omega arith;
-    few = l;
-    settled = λ m a b p. absurd (omega arith);
-    stays = λ z. z;
-    enters = λ z. inl z;
-  }
-
-  module _ (k : ℕ) (seen : Bool) (A : Along T rows r step entered k seen) where
-    module _ (in_range : k ≤ length T.edges) (next : Sought) (seen' : Bool) (Q : Asks T rows n k r seen next seen') where
+module _ {T : Table} {rows : List Row} {n : ℕ} {r : Row} {step : ℕ} {entered : Bool} where
+  module _ {k : ℕ} {seen : Bool} (A : Along T rows r step entered k seen) where
+    module _ (in_range : k ≤ length T.edges) {next : Sought} {seen' : Bool} (Q : Asks T rows n k r seen next seen') where
       enters_on : seen' ≡ true → (entered ≡ true) ⊎ ((m : ℕ) × (m ≤ length T.edges) × (s : Row) × Mem s (due T m r) × (into_final T m ≡ true))
       enters_on h = go (Q.enters h)
         where
@@ -112,18 +110,6 @@ module _ (T : Table) (rows : List Row) (n : ℕ) (r : Row) (step : ℕ) (entered
         stays = λ y. Q.stays (A.stays y);
         enters = enters_on;
       }
-
-    pub along_all : length T.edges < k → (none_next : Sought) → none_next ≡ sought none → (here : ℕ) (none_found : Sought) → none_found ≡ sought none
-        → Follows T rows n step r entered (record { next = none_next; step = k; here = here; entered = seen; «from» = none_found })
-    along_all h x q here z e = record {
-      on = A.on;
-      settled = A.settled;
-      all = λ _. omega (arith, A.few);
-      new = λ f. never (sym (ap (λ (y : Sought). y.found) q) ∙ f);
-      none_from = ap (λ (y : Sought). y.found) e;
-      stays = A.stays;
-      enters = A.enters;
-    }
 
 -- waiting, and then the edges --------------------------------------------------------------------------------------------------------------------
 

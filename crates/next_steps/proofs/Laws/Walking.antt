@@ -6,10 +6,7 @@ use mathlib.Core.Path.{◌≡◌, sym, ap, subst, ◌∙◌}
 use mathlib.Core.Bool.{Bool, true, false}
 use mathlib.Core.Option.{none}
 use mathlib.Core.List.{List}
-use lib.ListN.{length, set}
-use lib.Seq.{get_or-set_same, get_or-set_other}
-use lib.Dec.{ltb}
-use borrow.Author.Tests.{ltb-true}
+use lib.ListN.{length}
 use Rattle.automata.specs.Row.{Row, IsRow}
 use Rattle.automata.specs.Automaton.{Table, edge}
 use Rattle.automata.specs.Closed.{Mem, Ascends}
@@ -29,25 +26,17 @@ use Rattle.listed_rows.specs.Listed.{listed_row, listed_rows, Listed}
 use Rattle.listed_rows.specs.Located.{RowsIn}
 use Rattle.listed_rows.proofs.Laws.Listed.{listed_in, in_listed, listed_again}
 use Rattle.listed_rows.proofs.Laws.Located.{between}
-use Rattle.selection.specs.Chosen.{taken_at}
 use Rattle.walked_rows.specs.Open.{Inside, SomeOpen}
-use Rattle.walked_rows.specs.Leading.{Stretch, TakenInside}
+use Rattle.walked_rows.specs.Leading.{TakenInside}
+use Rattle.selection.specs.Chosen.{taken_at}
+use borrow.Author.Tests.{ltb-true}
+use lib.Dec.{ltb}
 use Rattle.kept_rows.specs.Births.{birth}
 use Rattle.new_rows.specs.New.{NewOf}
 use Rattle.next_steps.specs.Steps.{due, plain, NewBy, Walks}
 use Rattle.next_steps.specs.Walking.{Leads, Old, OpenBy, WalkedBy}
 use Rattle.next_steps.proofs.Laws.Steps.{walked_outside}
 use Rattle.next_steps.proofs.Laws.Asking.{led_are}
-
--- marks ------------------------------------------------------------------------------------------------------------------------------------------
-
-pub marks_on : (marks : List Bool) (start i : ℕ) (f : ℕ → Bool) → i < length marks → ((j : ℕ) → start ≤ j → j < i → taken_at marks j ≡ f j)
-    → (b : Bool) → b ≡ f i → (j : ℕ) → start ≤ j → j < i + 1 → taken_at (set marks i b) j ≡ f j
-marks_on marks start i f long before b e j s l = go (ℕ_discrete j i)
-  where
-    go : Dec (j ≡ i) → taken_at (set marks i b) j ≡ f j
-    go (yes q) = rw q (get_or-set_same marks i b false long ∙ e)
-    go (no q) = get_or-set_other marks i j b false q ∙ before j s (omega arith)
 
 -- one edge -----------------------------------------------------------------------------------------------------------------------------------------
 
@@ -59,9 +48,6 @@ module _ (k : Clocks) (list : List ℕ) (count : ℕ) (e : edge_code.Edge) where
   rows = listed_rows n list count
 
   module _ (start stop : ℕ) (I : RowsIn n list count e.source start stop) (a : Ascends rows) where
-    pub source_stretch : Stretch n list count e.source start stop
-    source_stretch = record { from = I.together.from; within = I.together.within; all = I.together.all }
-
     -- rows that are marked as old are old
     pub old_inside : (first : ℕ) → Old k list count e first → (marks : List Bool) → ((i : ℕ) → start ≤ i → i < stop → taken_at marks i ≡ ltb (birth n list i) first)
         → TakenInside (bounds_of k) (edge_of n e) n list count start stop marks
@@ -114,15 +100,6 @@ module _ (k : Clocks) (list : List ℕ) (count : ℕ) (e : edge_code.Edge) where
       from_row = λ _. in_list;
     }
 
-  pub walked_none : (opened : Sought) → OpenBy k list count e opened → opened.found ≡ false → (q : Sought) → q ≡ sought none → (z : Sought) → z ≡ sought none
-      → WalkedBy k list count e q z
-  walked_none opened O t q m z w = record {
-    none = λ _. O.none t;
-    one = λ f. never (sym (ap (λ (y : Sought). y.found) m) ∙ f);
-    new = λ f. never (sym (ap (λ (y : Sought). y.found) m) ∙ f);
-    from_row = λ f. never (sym (ap (λ (y : Sought). y.found) w) ∙ f);
-  }
-
 -- edge by edge -----------------------------------------------------------------------------------------------------------------------------------------
 
 -- steps up to one of them, by which nothing new was found
@@ -132,11 +109,8 @@ pub record Past (T : Table) (rows : List Row) (step k : ℕ) : Type 0 where
   pub few : k ≤ suc (length T.edges)
   pub settled : (m : ℕ) → step ≤ m → m < k → plain T m ≡ false → (r : Row) → Mem r rows → every (has rows) (due T m r) ≡ true
 
-module _ (T : Table) (rows : List Row) (n step : ℕ) where
-  pub past_start : 1 ≤ step → step ≤ suc (length T.edges) → Past T rows step step
-  past_start h l = record { above = h; on = omega arith; few = l; settled = λ m a b. absurd (omega arith) }
-
-  module _ (k : ℕ) (P : Past T rows step k) where
+module _ {T : Table} {rows : List Row} {step : ℕ} where
+  module _ {k : ℕ} (P : Past T rows step k) where
     pub past_on : k ≤ length T.edges → (plain T k ≡ false → (r : Row) → Mem r rows → every (has rows) (due T k r) ≡ true) → Past T rows step (k + 1)
     past_on l s = record { above = P.above; on = omega (arith, P.on); few = omega arith; settled = λ m a b p r i. go m a b p r i (ℕ_discrete m k) }
       where
@@ -144,19 +118,9 @@ module _ (T : Table) (rows : List Row) (n step : ℕ) where
         go m a b p r i (yes e) = subst (λ (t : ℕ). every (has rows) (due T t r) ≡ true) (sym e) (s (subst (λ (t : ℕ). plain T t ≡ false) e p) r i)
         go m a b p r i (no e) = P.settled m a (omega arith) p r i
 
-    pub past_new : (next : Sought) (here : ℕ) (entered : Bool) (from : Sought) → next.found ≡ true → (r : Row) × Mem r rows × NewBy T rows k r (row_of n next.region)
+    pub past_new : {n : ℕ} (next : Sought) (here : ℕ) (entered : Bool) (from : Sought) → next.found ≡ true → (r : Row) × Mem r rows × NewBy T rows k r (row_of n next.region)
         → (from.found ≡ true → Mem (row_of n from.region) rows) → Walks T rows n step (record { next = next; step = k; here = here; entered = entered; «from» = from })
     past_new next here entered from f N w = record { on = P.on; settled = P.settled; all = λ g. never (sym g ∙ f); new = λ _. N; «from» = w }
-
-    pub past_all : length T.edges < k → (next : Sought) → next ≡ sought none → (here : ℕ) (entered : Bool) (from : Sought) → from ≡ sought none
-        → Walks T rows n step (record { next = next; step = k; here = here; entered = entered; «from» = from })
-    past_all h next q here entered from z = record {
-      on = P.on;
-      settled = P.settled;
-      all = λ _. omega (arith, P.few);
-      new = λ f. never (sym (ap (λ (y : Sought). y.found) q) ∙ f);
-      «from» = λ f. never (sym (ap (λ (y : Sought). y.found) z) ∙ f);
-    }
 
 -- an edge that is the table's -------------------------------------------------------------------------------------------------------------------------
 

@@ -1,8 +1,24 @@
--- The first of some numbers of which something does not hold, found by halves, or among some of them alone. Assumes nothing.
-use Prim.Native.Nat.{ℕ, ◌+◌, ◌≤◌, ◌<◌, min}
+-- The first of some numbers of which something does not hold, found by halves, one by one, or among some of them alone. Assumes nothing.
+use Prim.Native.Nat.{ℕ, ◌≤◌, ◌<◌}
 use native.Mathlib.Decide.{dec_lt}
 use native.Mathlib.Omega.{arith}
-use mathlib.Core.Path.{◌≡◌, sym, subst}
+use mathlib.Core.Bool.{Bool, true, false, not}
+use mathlib.Core.List.{List}
+use mathlib.Core.Path.{◌≡◌, sym, ◌∙◌}
+use borrow.Author.Tests.{not-true, not-false}
+use Rattle.automata.proofs.Laws.Tests.{never}
+use denote.Param.Members.{Mut}
+use denote.Ref.{Bor}
+use Rattle.std.proofs.iter.Yields.{nat_range_steps}
+use Rattle.std.proofs.lemmas.Iterator.{first_from_Range}
+use Rattle.std.specs.Bool.{⊤}
+use Rattle.std.specs.Fn.{CalledAt}
+use Rattle.std.specs.Iterator.{YieldsThen}
+use Rattle.std.specs.List.{FoldsTo}
+use Rattle.std.specs.Option.{MatchOption, unwrap_or}
+use Rattle.std.specs.declared.ops.Range.{Range}
+use Rattle.std.specs.declared.option.Option.{Option}
+use Rattle.std.specs.declared.option.Option.TheVariants.{Some, None}
 use Rattle.walked_rows.specs.Open.{FirstOpen, SomeOpen}
 
 module _ (P : ℕ → Type 0) (lo hi : ℕ) where
@@ -17,10 +33,6 @@ module _ (P : ℕ → Type 0) (lo hi : ℕ) where
     pub to : first ≤ hi
     pub before : (i : ℕ) → lo ≤ i → i < low → P i
     pub here : first < hi → P first → ⊥
-
-  pub halving_begins : (first : ℕ) → lo ≤ first → first ≤ hi → (first < hi → P first → ⊥) → Halving lo first first
-  halving_begins first a b h =
-      record { from = omega arith; some = λ l. l; low_top = a; top_first = omega arith; to = b; before = λ i a b. absurd (omega arith); here = h }
 
   module _ (low first top : ℕ) (H : Halving low first top) where
     pub halving_ends : first ≤ low → FirstOpen P lo hi first
@@ -39,13 +51,18 @@ module _ (P : ℕ → Type 0) (lo hi : ℕ) where
         go i a b (yes l) = H.before i a l
         go i a b (no l) = S.all (omega (arith, S.to)) i (omega arith) b
 
--- the lesser of two that are open, if the second is one that comes before the next after the first
-pub least_open : (P : ℕ → Type 0) (a b r : ℕ) → r ≡ min a b → (P a → ⊥) → (b < a + 1 → P b → ⊥) → P r → ⊥
-least_open P a b r q h g = go (dec_lt a b)
+-- by `find`, whose closure says where it fails the test --------------------------------------------------------------------------------------
+
+pub first_found : {F : Type 0} {g : Mut F (Bor ℕ × Unit {0}) Bool} (test : ℕ → Bool) (lo hi : ℕ) → lo ≤ hi → (u : Range ℕ) (f : F) (r : Option ℕ)
+    → (xs : List ℕ) × (j : F) × YieldsThen nat_range_steps (record { start = lo; end = hi }) xs r u × FoldsTo (λ p x q. CalledAt g p x false q) f xs j × MatchOption r ⊤ (λ x. (h : F) × CalledAt g j x true h)
+    → ((x : ℕ) (b : Bool) (q : F) → CalledAt g f x b q → (q ≡ f) × (b ≡ not (test x))) → FirstOpen (λ i. test i ≡ true) lo hi (unwrap_or r hi)
+first_found {F} {g} test lo hi l u f r ran k =
+    go r (first_from_Range {g = g} (record { start = lo; end = hi }) u f r (λ x. test x ≡ true → ⊥) (λ x. test x ≡ true) ran
+    (λ x q h e. never (sym (not-true _ (sym (k x true q h).1)) ∙ e)) (λ x q h. let (same, e) = k x false q h in (same, not-false _ (sym e))))
   where
-    go : Dec (a < b) → P r → ⊥
-    go (yes l) = let e : r ≡ a = omega arith in subst (λ (i : ℕ). P i → ⊥) (sym e) h
-    go (no l) = let e : r ≡ b = omega arith in subst (λ (i : ℕ). P i → ⊥) (sym e) (g (omega arith))
+    go : (r : Option ℕ) → MatchOption r ((k : ℕ) → lo ≤ k → k < hi → test k ≡ true) (λ i. (lo ≤ i) × (i < hi) × (test i ≡ true → ⊥) × ((k : ℕ) → lo ≤ k → k < i → test k ≡ true)) → FirstOpen (λ i. test i ≡ true) lo hi (unwrap_or r hi)
+    go None h = record { from = l; to = omega arith; before = h; here = λ k. absurd (omega arith) }
+    go (Some i) (a, b, h, before) = record { from = a; to = omega arith; before = before; here = λ _. h }
 
 -- those of some rows alone ---------------------------------------------------------------------------------------------------------------------
 

@@ -1,7 +1,6 @@
 -- What is remembered of rankings. Assumes nothing.
 use Prim.Native.Nat.{ℕ, zero, suc, ◌+◌, ◌*◌, ◌≤◌, ◌<◌}
 use native.Mathlib.Decide.{ℕ_discrete}
-use native.Mathlib.Numerals.{add-one}
 use native.Mathlib.Omega.{arith}
 use mathlib.Core.Path.{◌≡◌, refl, sym, ap, subst, ◌∙◌}
 use mathlib.Core.Bool.{Bool, true, false, cond, not, ◌&&◌, ◌||◌}
@@ -138,11 +137,6 @@ marked_length zero place b memo = refl
 marked_length (suc k) place b memo = rw (ne_eqb (suc k) 0 (λ d. omega arith)) (length-set memo place (1 + one_if b))
 
 -- the code's steps ---------------------------------------------------------------------------------------------------------------
-
--- one clock more
-pub pattern_next : (f : ℕ → Bool) (z sum w : ℕ) (b : Bool) → sum ≡ pattern f z → b ≡ f z → w ≡ cond b (weight z) 0 → sum + w ≡ pattern f (z + 1)
-unfolding pattern
-pattern_next f z sum w b e d g = rw (add-one, ← e, ← d, g)
 
 module _ (parts place : ℕ) (b : Bool) (memo : List ℕ) where
   pub marked_none : parts ≡ 0 → memo ≡ marked parts place b memo

@@ -116,13 +116,6 @@ module _ (c : List ℕ) (l : ℕ) (js : List ℕ) (long : length js ≡ length c
 
 -- the number of a choice of open clocks ---------------------------------------------------------------------------------------------------
 
-pub weights : (z : ℕ) → z < 4 → get_or (1 ∷ 2 ∷ 4 ∷ 8 ∷ []) z 0 ≡ weight z
-weights zero h = refl
-weights (suc zero) h = refl
-weights (suc (suc zero)) h = refl
-weights (suc (suc (suc zero))) h = refl
-weights (suc (suc (suc (suc z)))) h = absurd (omega arith)
-
 -- a clock's weight is above all numbers without it
 pub pattern_less : (p : ℕ → Bool) (n : ℕ) → pattern p n < weight n
 unfolding pattern
@@ -133,7 +126,7 @@ pattern_less p (suc n) = go (p n) (pattern_less p n)
     go true h = omega arith
     go false h = omega arith
 
-weight_few : (n : ℕ) → n ≤ 4 → weight n ≤ 16
+pub weight_few : (n : ℕ) → n ≤ 4 → weight n ≤ 16
 weight_few zero h = omega arith
 weight_few (suc zero) h = omega arith
 weight_few (suc (suc zero)) h = omega arith
@@ -143,6 +136,15 @@ weight_few (suc (suc (suc (suc (suc n))))) h = absurd (omega arith)
 
 pub pattern_low : (p : ℕ → Bool) (n : ℕ) → n ≤ 4 → pattern p n < 16
 pattern_low p n h = omega (arith, pattern_less p n, weight_few n h)
+
+-- one clock more
+pub sum_low : (z sum w : ℕ) (b : Bool) → sum < weight z → w ≡ cond b (weight z) 0 → sum + w < weight (z + 1)
+sum_low z sum w true h e = rw add-one (omega arith)
+sum_low z sum w false h e = rw add-one (omega arith)
+
+pub pattern_more : (p : ℕ → Bool) (z sum w : ℕ) (b : Bool) → sum ≡ pattern p z → b ≡ p z → w ≡ cond b (weight z) 0 → sum + w ≡ pattern p (z + 1)
+unfolding pattern
+pattern_more p z sum w b e f g = rw (add-one, ← e, ← f, g)
 
 -- the rankings of each choice are in the table
 pub starts_rise : (m : ℕ) → m < 16 → (at starts m ≤ at starts (m + 1)) × (at starts (m + 1) ≤ 150)
@@ -158,11 +160,9 @@ module _ (k : Clocks) (part : Region) where
   abbrev js : List ℕ
   js = (row_of n part).intervals
 
-  -- one clock more
-  pub pattern_more : (z sum w : ℕ) (b : Bool) → z < n → sum ≡ pattern (opens (bounds_of k) js) z → b ≡ openb (at k.bounds z) (at part.intervals z) → w ≡ cond b (weight z) 0
-      → sum + w ≡ pattern (opens (bounds_of k) js) (z + 1)
-  unfolding pattern
-  pattern_more z sum w b h e f g = rw (add-one, at_take n k.bounds z h, at_take n part.intervals z h, ← e, ← f, g)
+  -- the test of one clock
+  pub opens_at : (z : ℕ) (b : Bool) → z < n → b ≡ openb (at k.bounds z) (at part.intervals z) → b ≡ opens (bounds_of k) js z
+  opens_at z b h f = rw (at_take n k.bounds z h, at_take n part.intervals z h) f
 
   module _ (few : n ≤ 4) (bounds : length k.bounds ≡ 4) (intervals : length part.intervals ≡ 4) (within : InRange k part) where
     abbrev c : List ℕ

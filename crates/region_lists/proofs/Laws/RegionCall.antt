@@ -68,11 +68,6 @@ module _ (table list : List ℕ) (head : Head) (D : Describes table head) where
     unfolding list_checked carry
     read_refused n = rows_answer (refused number place) (rw (was_bad (region_file (table_of table) list) number place told n) refl)
 
-    pub read_told : number ≡ 0 → Told (region_file (table_of table) list) 0 0
-    read_told z =
-        let (rows, rest, e) = was_good (region_file (table_of table) list) number place told z in
-        told_good (region_file (table_of table) list) rows rest 0 e
-
 -- what the answer promises ---------------------------------------------------------------------------------------------------------------
 
 abbrev pub Promises : List ℕ → List ℕ → Answer → Type 0

@@ -8,11 +8,11 @@ use mathlib.Core.Logic.{◌⊎◌, inl, inr}
 use mathlib.Core.List.{List}
 use lib.ListN.{length, set, replicate}
 use lib.Seq.{get_or-set_same, get_or-set_other}
-use Rattle.automata.specs.Clocks.{at}
 use Rattle.automata.specs.Row.{Row, IsRow}
 use Rattle.automata.specs.Edge.{Edge}
 use Rattle.automata.specs.Successors.{guardsb}
 use Rattle.automata.proofs.Laws.Tests.{never}
+use Rattle.skylines.specs.declared.reach.Reach.{Reach}
 use Rattle.skylines.specs.Reach.{ReachOf, withinb}
 use Rattle.skylines.specs.Skyline.{member, Seats}
 use Rattle.skylines.proofs.Laws.NoFurther.{none_further}
@@ -30,11 +30,11 @@ module _ (c : List ℕ) (e : Edge) (n : ℕ) (list : List ℕ) where
   -- reaches that sit ----------------------------------------------------------------------------------------------------------------------
 
   -- fewer rows are within more
-  pub sit_wider : (lo hi lo' hi' : ℕ) (m : List ℕ) → lo' ≤ lo → hi ≤ hi' → Sits c e n list lo hi m → Sits c e n list lo' hi' m
+  pub sit_wider : (lo hi lo' hi' : ℕ) (m : Reach) → lo' ≤ lo → hi ≤ hi' → Sits c e n list lo hi m → Sits c e n list lo' hi' m
   sit_wider lo hi lo' hi' m p q s = record { from = omega (arith, s.from); to = omega (arith, s.to); located = s.located; guarded = s.guarded; reach = s.reach }
 
   -- the reach of a row that the edge can be taken from
-  pub sits_own : (lo hi i : ℕ) (own : List ℕ) → lo ≤ i → i < hi → (listed_row n list i).location ≡ e.source → guardsb (listed_row n list i) e.guards ≡ true
+  pub sits_own : (lo hi i : ℕ) (own : Reach) → lo ≤ i → i < hi → (listed_row n list i).location ≡ e.source → guardsb (listed_row n list i) e.guards ≡ true
       → ReachOf c e (listed_row n list i) i own → Sits c e n list lo hi own
   sits_own lo hi i own from to located guarded reach =
       record {
@@ -47,14 +47,14 @@ module _ (c : List ℕ) (e : Edge) (n : ℕ) (list : List ℕ) where
 
   module _ (lo hi : ℕ) (sized : length c ≡ n) (few : n ≤ 4) (are_rows : (j : ℕ) → j < hi → IsRow c (listed_row n list j)) where
     -- what passes from the row of a reach passes from that of a reach within it
-    pub further : (p : Row → Bool) (a b : List ℕ) → Sits c e n list lo hi a → Sits c e n list lo hi b → withinb n a b ≡ true → Leads c e n list p (at b 8) → Leads c e n list p (at a 8)
+    pub further : (p : Row → Bool) (a b : Reach) → Sits c e n list lo hi a → Sits c e n list lo hi b → withinb n a b ≡ true → Leads c e n list p b.row → Leads c e n list p a.row
     further p a b A B h =
-        none_further c e (listed_row n list (at a 8)) (listed_row n list (at b 8)) (omega arith) (are_rows (at a 8) A.to) (are_rows (at b 8) B.to) (at a 8) (at b 8) a b A.reach B.reach
+        none_further c e (listed_row n list a.row) (listed_row n list b.row) (omega arith) (are_rows a.row A.to) (are_rows b.row B.to) a.row b.row a b A.reach B.reach
         (rw sized h) (A.located ∙ sym B.located) (A.guarded ∙ sym B.guarded) p
 
     -- a row is offered --------------------------------------------------------------------------------------------------------------------
 
-    module _ (i : ℕ) (already : Bool) (ms : List (List ℕ)) (size : ℕ) (sit : AllSit c e n list lo hi ms size) (room : size ≤ 64) where
+    module _ (i : ℕ) (already : Bool) (ms : List Reach) (size : ℕ) (sit : AllSit c e n list lo hi ms size) (room : size ≤ 64) where
       -- it is taken already
       pub offers_taken : already ≡ true → Offers c e n list lo hi i already ms size ms size true
       offers_taken t = record { room = room; sit = sit; lead = λ p h. h; covers = λ p h s. inl t; first = λ z. refl }
@@ -65,7 +65,7 @@ module _ (c : List ℕ) (e : Edge) (n : ℕ) (list : List ℕ) where
           record { room = room; sit = sit; lead = λ p h. h; covers = λ p h s. inr (sym (edge_blocked c e (listed_row n list i) p g)); first = λ z. refl }
 
       -- it is seated, or there is no room
-      module _ (own : List ℕ) (ms' : List (List ℕ)) (size' : ℕ) (seated : Bool) (S : Seats n own ms size ms' size' seated) (from : lo ≤ i) (to : i < hi)
+      module _ (own : Reach) (ms' : List Reach) (size' : ℕ) (seated : Bool) (S : Seats n own ms size ms' size' seated) (from : lo ≤ i) (to : i < hi)
           (located : (listed_row n list i).location ≡ e.source) (guarded : guardsb (listed_row n list i) e.guards ≡ true) (reach : ReachOf c e (listed_row n list i) i own) where
         own_sits : Sits c e n list lo hi own
         own_sits = sits_own lo hi i own from to located guarded reach
@@ -91,7 +91,7 @@ module _ (c : List ℕ) (e : Edge) (n : ℕ) (list : List ℕ) where
 
   module _ (lo hi : ℕ) (ts : List Bool) where
     -- those before row i have been offered, and the first that had to be left out is known
-    pub record Choosing (i : ℕ) (ts' : List Bool) (ms : List (List ℕ)) (size left : ℕ) : Type 0 where
+    pub record Choosing (i : ℕ) (ts' : List Bool) (ms : List Reach) (size left : ℕ) : Type 0 where
       pub from : lo ≤ i
       pub within : i ≤ hi
       pub room : size ≤ 64
@@ -103,7 +103,7 @@ module _ (c : List ℕ) (e : Edge) (n : ℕ) (list : List ℕ) where
       pub rest : (j : ℕ) → i ≤ j → taken_at ts' j ≡ taken_at ts j
       pub lead : (p : Row → Bool) → AllLead c e n list p ms size → (j : ℕ) → lo ≤ j → j < i → taken_at ts' j ≡ true → (taken_at ts j ≡ true) ⊎ Leads c e n list p j
 
-    pub choosing_begins : (ms : List (List ℕ)) → lo ≤ hi → Choosing lo ts ms 0 hi
+    pub choosing_begins : (ms : List Reach) → lo ≤ hi → Choosing lo ts ms 0 hi
     choosing_begins ms h =
         record {
           from = omega arith;
@@ -118,8 +118,8 @@ module _ (c : List ℕ) (e : Edge) (n : ℕ) (list : List ℕ) where
           lead = λ p h j a b. absurd (omega arith);
         }
 
-    module _ (i : ℕ) (ts' : List Bool) (ms : List (List ℕ)) (size left : ℕ) (C : Choosing i ts' ms size left) where
-      pub choosing_on : i < hi → i < length ts' → (ms' : List (List ℕ)) (size' : ℕ) (seated : Bool) → Offers c e n list lo hi i (taken_at ts' i) ms size ms' size' seated
+    module _ (i : ℕ) (ts' : List Bool) (ms : List Reach) (size left : ℕ) (C : Choosing i ts' ms size left) where
+      pub choosing_on : i < hi → i < length ts' → (ms' : List Reach) (size' : ℕ) (seated : Bool) → Offers c e n list lo hi i (taken_at ts' i) ms size ms' size' seated
           → (left' : ℕ) → left' ≡ cond seated left (min left i) → Choosing (i + 1) (set ts' i seated) ms' size' left'
       choosing_on l long ms' size' seated O left' q =
           record {

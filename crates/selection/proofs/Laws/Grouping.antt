@@ -13,6 +13,7 @@ use Rattle.automata.specs.Row.{Row, IsRow}
 use Rattle.automata.specs.Edge.{Edge}
 use Rattle.automata.specs.Successors.{guardsb}
 use Rattle.automata.proofs.Laws.Tests.{never}
+use Rattle.skylines.specs.declared.reach.Reach.{Reach}
 use Rattle.skylines.specs.Reach.{ReachOf, withinb}
 use Rattle.skylines.proofs.Laws.NoNext.{edge_blocked}
 use Rattle.listed_rows.specs.Listed.{listed_row}
@@ -55,7 +56,7 @@ module _ (c : List ℕ) (e : Edge) (n : ℕ) (list : List ℕ) (lo hi : ℕ) whe
     lodges_none = record { held = H; lead = λ p h. h; covers = λ p h s. never s }
 
     module _ (sized : length c ≡ n) (few : n ≤ 4) (are_rows : (j : ℕ) → j < hi → IsRow c (listed_row n list j)) (from : lo ≤ i) (to : i < hi)
-        (located : (listed_row n list i).location ≡ e.source) (guarded : guardsb (listed_row n list i) e.guards ≡ true) (own : List ℕ)
+        (located : (listed_row n list i).location ≡ e.source) (guarded : guardsb (listed_row n list i) e.guards ≡ true) (own : Reach)
         (reach : ReachOf c e (listed_row n list i) i own) (k : ℕ) (l : k < 1024) where
       own_sits : Sits c e n list lo hi own
       own_sits = sits_own c e n list lo hi i own from to located guarded reach
@@ -92,7 +93,7 @@ module _ (c : List ℕ) (e : Edge) (n : ℕ) (list : List ℕ) (lo hi : ℕ) whe
       lodges_free long z = lodges_put long (λ p g m q. absurd (omega (arith, q, z)))
 
       -- its slot holds row j
-      module _ (j : ℕ) (h : at slots k ≡ suc j) (other : List ℕ) (there : ReachOf c e (listed_row n list j) j other) where
+      module _ (j : ℕ) (h : at slots k ≡ suc j) (other : Reach) (there : ReachOf c e (listed_row n list j) j other) where
         other_sits : Sits c e n list lo hi other
         other_sits = let o = H k j l h in sits_own c e n list lo hi j other o.from o.to o.located o.guarded there
 

@@ -1,18 +1,19 @@
 -- A skyline as the code keeps it: reach by reach, in place. Assumes nothing.
-use Prim.Native.Nat.{ℕ, ◌+◌, ◌≤◌, ◌<◌}
+use Prim.Native.Nat.{ℕ, zero, suc, ◌+◌, ◌≤◌, ◌<◌}
 use native.Mathlib.Decide.{ℕ_discrete}
-use native.Mathlib.Numerals.{add-one}
 use native.Mathlib.Omega.{arith}
 use mathlib.Core.Path.{◌≡◌, refl, sym, ap, ◌∙◌}
-use mathlib.Core.Bool.{true, false}
+use mathlib.Core.Bool.{Bool, true, false, ◌||◌}
 use mathlib.Core.Logic.{◌⊎◌, inl, inr}
-use mathlib.Core.List.{List, []}
-use lib.ListN.{length, set, length-set}
+use mathlib.Core.List.{List, [], ◌∷◌}
+use lib.ListN.{length, get_or, take, set, length-set}
 use lib.Seq.{get_or-set_same, get_or-set_other}
+use Rattle.automata.specs.Checks.{any}
 use Rattle.automata.specs.Clocks.{someb}
 use Rattle.automata.proofs.Laws.Tests.{Says, never, someb_law}
 use Rattle.skylines.specs.Reach.{withinb}
-use Rattle.skylines.specs.Skyline.{member, coveredb, Drops, Seats}
+use Rattle.skylines.specs.declared.reach.Reach.{Reach}
+use Rattle.skylines.specs.Skyline.{no_reach, member, coveredb, Drops, Seats}
 use Rattle.skylines.proofs.Laws.Reach.{within_itself}
 
 -- one of two ways
@@ -22,7 +23,7 @@ by_cases f g (inr b) = g b
 
 -- covered or not -------------------------------------------------------------------------------------------------------------------------
 
-module _ (n : ℕ) (ms : List (List ℕ)) (own : List ℕ) where
+module _ (n : ℕ) (ms : List Reach) (own : Reach) where
   covered_law : (size : ℕ) → Says (coveredb n ms size own) ((k : ℕ) × (k < size) × (withinb n own (member ms k) ≡ true))
   unfolding coveredb
   covered_law size = someb_law size (λ (k : ℕ). withinb n own (member ms k)) (λ k. (λ h. h, λ h. h))
@@ -30,31 +31,34 @@ module _ (n : ℕ) (ms : List (List ℕ)) (own : List ℕ) where
   pub covered_by : (size : ℕ) → coveredb n ms size own ≡ true → (k : ℕ) × (k < size) × (withinb n own (member ms k) ≡ true)
   covered_by size = (covered_law size).0
 
-  pub covered_here : (size k : ℕ) → k < size → withinb n own (member ms k) ≡ true → true ≡ coveredb n ms size own
-  covered_here size k l h = sym ((covered_law size).1 (k, l, h))
+-- the first of n is one of n, or those after it are
+some_after : (n : ℕ) (f : ℕ → Bool) → (f 0 || someb n (λ (k : ℕ). f (suc k))) ≡ someb (suc n) f
+unfolding someb
+some_after zero f = refl
+some_after (suc n) f = swap (f 0) (f (suc n)) (someb n (λ (k : ℕ). f (suc k))) ∙ ap (λ (b : Bool). f (suc n) || b) (some_after n f)
+  where
+    swap : (a b r : Bool) → (a || (b || r)) ≡ (b || (a || r))
+    swap true true r = refl
+    swap true false r = refl
+    swap false true r = refl
+    swap false false r = refl
 
-  -- none of the first k
-  pub record UncoveredTo (size k : ℕ) : Type 0 where
-    pub within : k ≤ size
-    pub so_far : coveredb n ms k own ≡ false
+-- some of the first n of a list passes a test
+some_first : {A : Type 0} (p : A → Bool) (d : A) (n : ℕ) (xs : List A) → n ≤ length xs → any p (take n xs) ≡ someb n (λ (k : ℕ). p (get_or xs k d))
+unfolding someb
+some_first p d zero xs l = refl
+some_first p d (suc n) [] l = absurd (omega arith)
+some_first p d (suc n) (x ∷ xs) l = ap (λ (b : Bool). p x || b) (some_first p d n xs (omega arith)) ∙ some_after n (λ (k : ℕ). p (get_or (x ∷ xs) k d))
 
-  pub uncovered_begins : (size : ℕ) → UncoveredTo size 0
-  unfolding coveredb someb
-  uncovered_begins size = record { within = omega arith; so_far = refl }
-
-  module _ (size k : ℕ) (S : UncoveredTo size k) where
-    pub uncovered_on : k < size → withinb n own (member ms k) ≡ false → UncoveredTo size (k + 1)
-    unfolding coveredb someb
-    uncovered_on l h = record { within = omega arith; so_far = rw (add-one, h) S.so_far }
-
-    pub uncovered_all : size ≤ k → false ≡ coveredb n ms size own
-    uncovered_all l = let q : k ≡ size = omega (arith, S.within) in sym (rw q at S.so_far)
+pub covered_any : (n : ℕ) (ms : List Reach) (own : Reach) (size : ℕ) → size ≤ length ms → any (withinb n own) (take size ms) ≡ coveredb n ms size own
+unfolding coveredb
+covered_any n ms own size l = some_first (withinb n own) no_reach size ms l
 
 -- those that lie within one's own are dropped -------------------------------------------------------------------------------------------
 
-module _ (n : ℕ) (own : List ℕ) (start : List (List ℕ)) (size : ℕ) where
+module _ (n : ℕ) (own : Reach) (start : List Reach) (size : ℕ) where
   -- of the first k
-  pub record Dropping (k kept : ℕ) (ms : List (List ℕ)) : Type 0 where
+  pub record Dropping (k kept : ℕ) (ms : List Reach) : Type 0 where
     pub within : k ≤ size
     pub fewer : kept ≤ k
     pub long : length ms ≡ length start
@@ -75,7 +79,7 @@ module _ (n : ℕ) (own : List ℕ) (start : List (List ℕ)) (size : ℕ) where
         rest = λ j h. refl;
       }
 
-  module _ (k kept : ℕ) (ms : List (List ℕ)) (D : Dropping k kept ms) (l : k < size) where
+  module _ (k kept : ℕ) (ms : List Reach) (D : Dropping k kept ms) (l : k < size) where
     -- one that does not moves up to the others that are kept
     pub dropping_keeps : size ≤ length start → Dropping (k + 1) (kept + 1) (set ms kept (member ms k))
     dropping_keeps room =
@@ -90,10 +94,10 @@ module _ (n : ℕ) (own : List ℕ) (start : List (List ℕ)) (size : ℕ) where
         }
       where
         here : member (set ms kept (member ms k)) kept ≡ member start k
-        here = get_or-set_same ms kept (member ms k) [] (omega (arith, D.fewer, D.long)) ∙ D.rest k (omega arith)
+        here = get_or-set_same ms kept (member ms k) no_reach (omega (arith, D.fewer, D.long)) ∙ D.rest k (omega arith)
 
         other : (j : ℕ) → (j ≡ kept → ⊥) → member (set ms kept (member ms k)) j ≡ member ms j
-        other j h = get_or-set_other ms kept j (member ms k) [] h
+        other j h = get_or-set_other ms kept j (member ms k) no_reach h
 
         new : (i : ℕ) → i < kept + 1 → Dec (i ≡ kept) → (j : ℕ) × (j < k + 1) × (member (set ms kept (member ms k)) i ≡ member start j)
         new i h (yes e) = (k, omega arith, ap (member (set ms kept (member ms k))) e ∙ here)
@@ -125,10 +129,10 @@ module _ (n : ℕ) (own : List ℕ) (start : List (List ℕ)) (size : ℕ) where
         }
       where
         lost : (j : ℕ) → j < k + 1 → Dec (j ≡ k) → (withinb n (member start j) own ≡ true) ⊎ ((i : ℕ) × (i < kept) × (member ms i ≡ member start j))
-        lost j g (yes e) = inl (ap (λ (m : List ℕ). withinb n m own) (ap (member start) e ∙ sym (D.rest k (omega arith))) ∙ h)
+        lost j g (yes e) = inl (ap (λ (m : Reach). withinb n m own) (ap (member start) e ∙ sym (D.rest k (omega arith))) ∙ h)
         lost j g (no e) = D.none_lost j (omega arith)
 
-  pub dropping_all : (k kept : ℕ) (ms : List (List ℕ)) → Dropping k kept ms → size ≤ k → Drops n own start size ms kept
+  pub dropping_all : (k kept : ℕ) (ms : List Reach) → Dropping k kept ms → size ≤ k → Drops n own start size ms kept
   dropping_all k kept ms D l =
       record {
         fewer = omega (arith, D.fewer, D.within);
@@ -139,8 +143,8 @@ module _ (n : ℕ) (own : List ℕ) (start : List (List ℕ)) (size : ℕ) where
 
 -- a reach is offered --------------------------------------------------------------------------------------------------------------------
 
-module _ (n : ℕ) (own : List ℕ) (start : List (List ℕ)) (size : ℕ) where
-  within_same : (a b : List ℕ) → a ≡ b → withinb n b a ≡ true
+module _ (n : ℕ) (own : Reach) (start : List Reach) (size : ℕ) where
+  within_same : (a b : Reach) → a ≡ b → withinb n b a ≡ true
   within_same a b e = rw e (within_itself n b)
 
   -- it is covered
@@ -154,7 +158,7 @@ module _ (n : ℕ) (own : List ℕ) (start : List (List ℕ)) (size : ℕ) where
         first = λ e. refl;
       }
 
-  module _ (ms : List (List ℕ)) (kept : ℕ) (D : Drops n own start size ms kept) where
+  module _ (ms : List Reach) (kept : ℕ) (D : Drops n own start size ms kept) where
     -- there is no room
     pub seats_none : size ≤ 64 → kept ≡ 64 → Seats n own start size ms kept false
     seats_none room e =
@@ -178,10 +182,10 @@ module _ (n : ℕ) (own : List ℕ) (start : List (List ℕ)) (size : ℕ) where
         }
       where
         here : member (set ms kept own) kept ≡ own
-        here = get_or-set_same ms kept own [] (omega arith)
+        here = get_or-set_same ms kept own no_reach (omega arith)
 
         other : (j : ℕ) → j < kept → member (set ms kept own) j ≡ member ms j
-        other j h = get_or-set_other ms kept j own [] (λ e. omega arith)
+        other j h = get_or-set_other ms kept j own no_reach (λ e. omega arith)
 
         new : (k : ℕ) → k < kept + 1 → Dec (k ≡ kept) → (member (set ms kept own) k ≡ own) ⊎ ((j : ℕ) × (j < size) × (member (set ms kept own) k ≡ member start j))
         new k l (yes e) = inl (ap (member (set ms kept own)) e ∙ here)

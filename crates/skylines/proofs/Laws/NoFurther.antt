@@ -23,6 +23,8 @@ use Rattle.automata.proofs.Laws.Tests.{Says, never, and_law, leb_law, allb_law}
 use Rattle.automata.proofs.Laws.Lists.{at_greatest}
 use Rattle.automata.proofs.Laws.Rows.{isrowb_law}
 use Rattle.automata.proofs.Laws.Ranks.{rank_le}
+use Rattle.skylines.specs.declared.reach.Reach.{Reach}
+use Rattle.skylines.proofs.Laws.Reach.{within_at}
 use Rattle.skylines.specs.Reach.{place, place_of, upb, downb, low_end, high_end, low_at, high_at, ReachOf, withinb}
 
 itself : (b : Bool) → Says b (b ≡ true)
@@ -398,13 +400,12 @@ greedy_placing c e r x (suc a) =
     ap (λ (g : ℕ). least (rank_fits c e r x (suc a)) (2 * greatest r.ranks + 1 - (g + g % 2)) (g + g % 2)) (greedy_placing c e r x a)
 
 -- reaches of two rows, the one within the other
-module _ (c : List ℕ) (e : Edge) (r s : Row) (short : length c ≤ 4) (ir : IsRow c r) (is : IsRow c s) (i k : ℕ) (m m' : List ℕ) (R : ReachOf c e r i m) (S : ReachOf c e s k m')
+module _ (c : List ℕ) (e : Edge) (r s : Row) (short : length c ≤ 4) (ir : IsRow c r) (is : IsRow c s) (i k : ℕ) (m m' : Reach) (R : ReachOf c e r i m) (S : ReachOf c e s k m')
     (within : withinb (length c) m m' ≡ true) where
   narrowed : (z : ℕ) → z < length c → (low_at c e s z ≤ low_at c e r z) × (high_at c e r z ≤ high_at c e s z)
   unfolding withinb
   narrowed z l =
-      let (h, g) = (allb_law (length c) (λ (z : ℕ). leb (at m' z) (at m z) && leb (at m (4 + z)) (at m' (4 + z)))
-      (λ z. and_law _ _ (leb_law (at m' z) (at m z)) (leb_law (at m (4 + z)) (at m' (4 + z))))).0 within z l in
+      let (h, g) = (allb_law (length c) (within_at m m') (λ z. and_law _ _ (leb_law (at m'.lows z) (at m.lows z)) (leb_law (at m.highs z) (at m'.highs z)))).0 within z l in
       (omega (arith, R.low z l, S.low z l), omega (arith, R.high z l, S.high z l))
 
   module _ (x : Row) (is_row : IsRow c x) where

@@ -1,7 +1,8 @@
 -- An edge leads where its sides lead: to a value that is not the one it excludes, from below or from above. Assumes nothing.
-use Prim.Native.Nat.{ℕ, zero, suc, ◌+◌, ◌*◌, ◌%◌, ◌/◌, ◌≤◌, ◌<◌}
-use native.Mathlib.Numerals.{add-one}
+use Prim.Native.Nat.{ℕ, zero, suc, ◌+◌, ◌*◌, ◌%◌, ◌/◌, ◌^◌, ◌≤◌, ◌<◌}
 use native.Mathlib.Omega.{arith}
+use Rattle.std.proofs.lemmas.Nat.{shr-shr}
+use Rattle.std.proofs.Math.Nat.{div-one}
 use mathlib.Core.Path.{◌≡◌, refl, sym, ap, ◌∙◌, subst}
 use mathlib.Core.Bool.{Bool, true, false, cond}
 use mathlib.Core.Logic.{◌↔◌, inl, inr, ⊎_elim}
@@ -26,14 +27,11 @@ use Rattle.skylines.specs.Sides.{halved, bit, two_sided, sided_update, two_sided
 
 -- ways to choose ----------------------------------------------------------------------------------------------------------------
 
--- one bit more
-pub halved_more : (k z : ℕ) {h : ℕ} → h ≡ halved k z → h / 2 ≡ halved k (z + 1)
+-- k without its z lowest bits is k shifted by z
+pub halved_is : (k z : ℕ) → halved k z ≡ k / 2 ^ z
 unfolding halved
-halved_more k z e = ap (λ (m : ℕ). m / 2) e ∙ go k z ∙ ap (halved k) (sym (add-one z))
-  where
-    go : (k z : ℕ) → halved k z / 2 ≡ halved k (suc z)
-    go k zero = refl
-    go k (suc z) = go (k / 2) z
+halved_is k zero = sym (div-one k)
+halved_is k (suc z) = halved_is (k / 2) z ∙ shr-shr k 1 z ∙ (let e : 1 + z ≡ suc z = omega arith in ap (λ (m : ℕ). k / 2 ^ m) e)
 
 -- two to the n
 twice : ℕ → ℕ

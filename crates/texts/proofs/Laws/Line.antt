@@ -54,12 +54,6 @@ module _ (o word a : List ℕ) (at : ℕ) (is : at ≡ length word) (e : a ≡ w
     ),
   )
 
-  pub counted_same : (d w : List ℕ) (k : ℕ) → k ≡ length d → k ≤ 5 → w ≡ d ++ drop k (take (length blanked - (at + 1)) (drop (at + 1) blanked))
-      → length (take (at + 1) blanked ++ (w ++ drop (length blanked - (at + 1)) (drop (at + 1) blanked))) ≡ length o
-  counted_same d w k l few f =
-      let t = counted_written d w k l few f in
-      ap length t.1.1 ∙ length-append (word ++ (32 ∷ d)) (drop (at + 1 + k) o) ∙ simp length-drop (omega (arith, t.0, t.1.0))
-
 -- a first part p of j bytes, and a second part q of k bytes after it: a is the buffer after the first, w what came back for the rest
 pub both_written : (o a p q w : List ℕ) (j k : ℕ) → j ≡ length p → a ≡ p ++ drop j o → k ≡ length q → w ≡ q ++ drop k (take (length a - j) (drop j a))
     → (j + k ≡ length (p ++ q)) × (take j a ++ (w ++ drop (length a - j) (drop j a)) ≡ (p ++ q) ++ drop (j + k) o)

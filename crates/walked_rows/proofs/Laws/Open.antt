@@ -5,6 +5,9 @@ use native.Mathlib.Decide.{dec_lt, ℕ_discrete}
 use native.Mathlib.Omega.{arith}
 use mathlib.Core.Path.{◌≡◌, refl, sym, subst}
 use mathlib.Core.Logic.{◌↔◌}
+use Rattle.std.specs.Option.{MatchOption, unwrap_or}
+use Rattle.std.specs.declared.option.Option.{Option}
+use Rattle.std.specs.declared.option.Option.TheVariants.{None, Some}
 use Rattle.walked_rows.specs.Open.{FirstOpen, SomeOpen, LeastOf, Lowers}
 
 module _ (P : ℕ → Type 0) (lo hi : ℕ) where
@@ -36,6 +39,12 @@ module _ (P : ℕ → Type 0) (lo hi : ℕ) where
   -- all at once
   pub first_none : lo ≤ hi → ((i : ℕ) → lo ≤ i → i < hi → P i) → FirstOpen P lo hi hi
   first_none h all = record { from = h; to = omega arith; before = all; here = λ k. absurd (omega arith) }
+
+  -- as a search finds it
+  pub first_found : lo ≤ hi → (r : Option ℕ) → MatchOption r ((i : ℕ) → lo ≤ i → i < hi → P i) (λ r. (lo ≤ r) × (r < hi) × (P r → ⊥) × ((i : ℕ) → lo ≤ i → i < r → P i))
+      → FirstOpen P lo hi (unwrap_or r hi)
+  first_found h None all = first_none h all
+  first_found h (Some r) (from, to, not, before) = record { from = from; to = omega arith; before = before; here = λ l. not }
 
 -- one of them, not the first ------------------------------------------------------------------------------------------------------------------
 

@@ -1,37 +1,25 @@
 -- Walks from chosen rows, turn after turn, tell of all rows. Assumes nothing.
-use Prim.Native.Nat.{ℕ, suc, ◌+◌, ◌≤◌, ◌<◌}
-use native.Mathlib.Decide.{dec_lt, ℕ_discrete}
+use Prim.Native.Nat.{ℕ, suc, ◌≤◌, ◌<◌}
+use native.Mathlib.Decide.{dec_lt}
 use native.Mathlib.Omega.{arith}
-use mathlib.Core.Path.{◌≡◌, refl, sym, ap, ◌∙◌}
+use mathlib.Core.Path.{◌≡◌, refl, sym, ◌∙◌}
 use mathlib.Core.Bool.{Bool, true, false}
 use mathlib.Core.Logic.{◌⊎◌, inl, inr}
 use mathlib.Core.List.{List}
-use lib.ListN.{length, set, replicate}
-use lib.Seq.{get_or-set_same, get_or-set_other}
+use lib.ListN.{replicate}
 use Rattle.automata.specs.Clocks.{at}
 use Rattle.automata.specs.Row.{Row}
 use Rattle.automata.specs.Edge.{Edge}
 use Rattle.automata.specs.Successors.{edge_rows}
 use Rattle.automata.specs.Checks.{has}
 use Rattle.automata.proofs.Laws.Tests.{never}
+use Rattle.skylines.specs.declared.reach.Reach.{Reach}
 use Rattle.skylines.specs.Skyline.{member}
 use Rattle.listed_rows.specs.Listed.{listed_rows}
 use Rattle.selection.specs.Chosen.{taken_at, Chooses, Groups}
 use Rattle.selection.proofs.Laws.Choosing.{none_taken}
 use Rattle.walked_rows.specs.Open.{Inside, SomeOpen, LeastOf}
-use Rattle.walked_rows.specs.Leading.{TakenInside, SameTaken, Grouped}
-
--- the same rows are taken, row by row ---------------------------------------------------------------------------------------------------------
-
-pub same_begins : (lo : ℕ) (ts ts' : List Bool) → SameTaken lo lo ts ts'
-same_begins lo ts ts' i a b = absurd (omega arith)
-
-pub same_on : (lo i : ℕ) (ts ts' : List Bool) → SameTaken lo i ts ts' → i < length ts' → SameTaken lo (i + 1) ts (set ts' i (taken_at ts i))
-same_on lo i ts ts' S l j a b = go (ℕ_discrete j i)
-  where
-    go : Dec (j ≡ i) → taken_at (set ts' i (taken_at ts i)) j ≡ taken_at ts j
-    go (yes q) = ap (taken_at (set ts' i (taken_at ts i))) q ∙ get_or-set_same ts' i (taken_at ts i) false l ∙ ap (taken_at ts) (sym q)
-    go (no q) = get_or-set_other ts' i j (taken_at ts i) false q ∙ S j a (omega arith)
+use Rattle.walked_rows.specs.Leading.{TakenInside, Grouped}
 
 module _ (c : List ℕ) (e : Edge) (n : ℕ) (list : List ℕ) (count : ℕ) where
   abbrev In : ℕ → Type 0
@@ -99,7 +87,7 @@ module _ (c : List ℕ) (e : Edge) (n : ℕ) (list : List ℕ) (count : ℕ) whe
             go j a b (inr k) = k
 
       -- of those that are left some are chosen
-      module _ (ms : List (List ℕ)) (size next : ℕ) (C : Chooses c e n list from end ts ts' ms size next) (r : ℕ) (L : LeastOf In (λ k j. at (member ms k) 8 ≡ j) size end r) where
+      module _ (ms : List Reach) (size next : ℕ) (C : Chooses c e n list from end ts ts' ms size next) (r : ℕ) (L : LeastOf In (λ k j. (member ms k).row ≡ j) size end r) where
         pub chosen_found : r < end → SomeOpen In start end r
         chosen_found l = let (k, m, s) = L.one l in turning_found from ts T r (omega (arith, (C.sit k m).from, s)) l (L.here l)
 

@@ -18,7 +18,10 @@ use Rattle.automata.proofs.Laws.Count.{one_le}
 use Rattle.regions.specs.Move.{rel_of, fits_at, permitsb, Stretch}
 use Rattle.regions.specs.declared.clock_move.Move.{Move}
 use Rattle.regions.proofs.Laws.Move.{freeb, by_partsb, is_parts, is_fixed, fits_free, fits_parts, fits_fixed, permits_free, permits_fixed, stretch_permits}
-use Rattle.way_counts.specs.Kinds.{open_kind, kind, of_kind}
+use Rattle.way_counts.specs.Kinds.{open_kind, kind, number, of_kind}
+use Rattle.way_counts.specs.declared.kinds.Kind as code
+use mathlib.Core.List.{[], ◌∷◌}
+use lib.ListN.{get_or}
 use Rattle.way_counts.proofs.Laws.Sums.{total, total_from}
 
 -- the code's cases --------------------------------------------------------------------------------------------------------------------
@@ -131,6 +134,22 @@ module _ (m : Move) (j : ℕ) where
       go true free = omega arith
       go true (parts q) = omega arith
 
+-- the code's kinds -------------------------------------------------------------------------------------------------------------------
+
+pub number_low : (k : code.Kind) → number k < 3
+number_low code.TheVariants.Shut = omega arith
+number_low code.TheVariants.Parted = omega arith
+number_low code.TheVariants.Loose = omega arith
+
+pub number_at : (d : ℕ) (k : code.Kind) → d < 3 → number (get_or (code.TheVariants.Shut ∷ code.TheVariants.Parted ∷ code.TheVariants.Loose ∷ []) d k) ≡ d
+number_at zero k h = refl
+number_at (suc zero) k h = refl
+number_at (suc (suc zero)) k h = refl
+number_at (suc (suc (suc d))) k h = absurd (omega arith)
+
+pub number_permits : (m : Move) (j : ℕ) (k : code.Kind) (b : Bool) → b ≡ eqb (kind m j) (number k) → b ≡ true → j ≤ m.top
+number_permits m j k b e t = (kind_permits m j (omega (arith, (eqb_law (kind m j) (number k)).0 (sym e ∙ t), number_low k))).0
+
 -- stretches ---------------------------------------------------------------------------------------------------------------------------
 
 -- intervals of a stretch that are both even or both odd are of the same kind
@@ -233,11 +252,7 @@ module _ (m : Move) (w : ℕ) where
       go true s l before = (i, omega arith, s.0 refl)
       go false s l before = let (j, a, e) = before (omega arith) in (j, omega arith, e)
 
-pub none_or_many : (b : Bool) (n : ℕ) → cond b n 0 ≤ n
-none_or_many true n = omega arith
-none_or_many false n = omega arith
-
--- .. as a sum over the intervals
+-- a count as a sum over the intervals
 pub kind_total : (m : Move) (w i : ℕ) → total (λ (j : ℕ). one_if (eqb (kind m j) w)) (from 0 i) ≡ of_kind m w i
 unfolding of_kind
 kind_total m w zero = refl

@@ -5,11 +5,16 @@ use native.Mathlib.Numerals.{add-one}
 use native.Mathlib.Decide.{ℕ_discrete}
 use native.Mathlib.Omega.{arith}
 use mathlib.Core.Path.{◌≡◌, refl, sym, ap, ◌∙◌}
-use mathlib.Core.Bool.{Bool, true, false}
-use mathlib.Core.List.{List, [], ◌∷◌}
+use mathlib.Core.Bool.{Bool, true, false, cond, not}
+use mathlib.Core.List.{List, [], ◌∷◌, map}
+use lib.Dec.{eqb}
+use borrow.Author.Tests.{eq-eqb}
+use Rattle.std.specs.List.{filter, range_with_len, sum}
+use Rattle.std.proofs.lemmas.List.FromFn.{fill_by_all, map-range_with_len_more}
+use Rattle.std.proofs.lemmas.List.Sums.{sum_by-append}
 use lib.ListN.{length, get_or, take, set, length-set}
-use lib.Seq.{get_or-set_same, get_or-set_other, take_all}
-use Rattle.automata.specs.Clocks.{at, each, one_if}
+use lib.Seq.{get_or-set_same, get_or-set_other}
+use Rattle.automata.specs.Clocks.{at, allb, each}
 use Rattle.automata.specs.Row.{Row}
 use Rattle.automata.specs.Rows.{select}
 use Rattle.regions.specs.Values.{bounds_of, row_of, padded}
@@ -24,14 +29,14 @@ use Rattle.edge_walk.specs.declared.choice.Search.{Search}
 use Rattle.way_counts.specs.Kinds.{kind, of_kind}
 use Rattle.way_counts.specs.Patterns.{sum_below, product, digits_from, digit, patterns, move_at, Counts, FewOfEach, count_at, sample_at, times, samples_of, ways, pattern_rows}
 use Rattle.way_counts.specs.declared.patterns.Kinds.{Kinds}
-use Rattle.automata.proofs.Laws.Tests.{same_test}
+use Rattle.automata.proofs.Laws.Tests.{refutes, allb_law}
 use Rattle.automata.proofs.Laws.Lists.{length_each, at_each}
 use Rattle.regions.proofs.Laws.Values.{at_take, take_padded}
 use Rattle.regions.proofs.Laws.Filling.{filled_more}
-use Rattle.regions.proofs.Laws.Placing.{placed_less}
-use Rattle.way_counts.proofs.Laws.Sums.{product_low, product_last, product_some, selected_more}
+use Rattle.edge_walk.proofs.Laws.Allowing.{placed_first}
+use Rattle.way_counts.proofs.Laws.Sums.{product_low, product_last, product_some}
 use Rattle.way_counts.proofs.Laws.Kinds.{of_kind_le, one_counted}
-use Rattle.way_counts.proofs.Laws.Patterns.{digit_low, digits_next}
+use Rattle.way_counts.proofs.Laws.Patterns.{digit_low}
 use Rattle.way_counts.proofs.Laws.Ways.{ways_loose, ways_low, patterns_total}
 
 -- the kinds of all clocks -------------------------------------------------------------------------------------------------------------
@@ -77,31 +82,33 @@ filled_all s i t F h = record {
         let b : (3 * z + d) % 3 ≡ d = omega arith in
         rw (a, b) at (F.right (3 * z + d) (omega arith))
 
--- what is asked of a clock's move is little
-pub kinds_asked : (s : Search) → Ready s → (i : ℕ) → i < 3 * s.clocks.count → ((move_at s (i / 3)).top ≤ 32767) × (i % 3 < 3)
-kinds_asked s R i h = (omega (arith, R.tops (i / 3) (omega arith), R.few.low (i / 3)), omega arith)
-
 -- a pattern ---------------------------------------------------------------------------------------------------------------------------
 
-module _ (number z digits : ℕ) (e : digits ≡ digits_from number z) where
-  pub digits_on : digits / 3 ≡ digits_from number (z + 1)
-  digits_on = rw (add-one z, digits_next number z, e)
+pub digits_are : (k z : ℕ) → z < 4 → at (k % 3 ∷ k / 3 % 3 ∷ k / 9 % 3 ∷ k / 27 % 3 ∷ []) z ≡ digit k z
+unfolding digit digits_from
+digits_are k zero h = refl
+digits_are k (suc zero) h = refl
+digits_are k (suc (suc zero)) h = ap (λ (x : ℕ). x % 3) {x = k / 9} {y = k / 3 / 3} (omega arith)
+digits_are k (suc (suc (suc zero))) h = ap (λ (x : ℕ). x % 3) {x = k / 27} {y = k / 3 / 3 / 3} (omega arith)
+digits_are k (suc (suc (suc (suc z)))) h = absurd (omega arith)
 
-  pub digit_is : digits % 3 ≡ digit number z
-  unfolding digit
-  digit_is = rw e
+pub digits_low : (k z : ℕ) → at (k % 3 ∷ k / 3 % 3 ∷ k / 9 % 3 ∷ k / 27 % 3 ∷ []) z < 3
+digits_low k zero = omega arith
+digits_low k (suc zero) = omega arith
+digits_low k (suc (suc zero)) = omega arith
+digits_low k (suc (suc (suc zero))) = omega arith
+digits_low k (suc (suc (suc (suc z)))) = omega arith
 
 -- the first z clocks' intervals are chosen
-pub record Chosen (t : Kinds) (number location z : ℕ) (part : Region) (many digits : ℕ) : Type 0 where
+pub record Chosen (t : Kinds) (number location z : ℕ) (part : Region) (many : ℕ) : Type 0 where
   pub located : part.location ≡ location
   pub intervals : part.intervals ≡ padded (each z (sample_at t number))
   pub many_are : many ≡ product z (count_at t number)
-  pub digits_are : digits ≡ digits_from number z
 
 pub chosen_none : (t : Kinds) (number location : ℕ)
-    → Chosen t number location 0 (record { location = location; intervals = 0 ∷ 0 ∷ 0 ∷ 0 ∷ []; ranks = 0 ∷ 0 ∷ 0 ∷ 0 ∷ [] }) 1 number
-unfolding product digits_from
-chosen_none t number location = record { located = refl; intervals = refl; many_are = refl; digits_are = refl }
+    → Chosen t number location 0 (record { location = location; intervals = 0 ∷ 0 ∷ 0 ∷ 0 ∷ []; ranks = 0 ∷ 0 ∷ 0 ∷ 0 ∷ [] }) 1
+unfolding product
+chosen_none t number location = record { located = refl; intervals = refl; many_are = refl }
 
 module _ (t : Kinds) (n number : ℕ) (four : n ≤ 4) (few : FewOfEach n t) where
   few_at : (z : ℕ) → z < n → count_at t number z ≤ 256
@@ -112,29 +119,28 @@ module _ (t : Kinds) (n number : ℕ) (four : n ≤ 4) (few : FewOfEach n t) whe
   times_low = product_low n (count_at t number) four few_at
 
   -- one clock more
-  module _ (location z : ℕ) (part : Region) (many digits : ℕ) (C : Chosen t number location z part many digits) (h : z < n) where
-    times_on : many * at t.counts (3 * z + digits % 3) ≡ product (z + 1) (count_at t number)
+  module _ (location z : ℕ) (part : Region) (many digit_z : ℕ) (C : Chosen t number location z part many) (h : z < n) (e : digit_z ≡ digit number z) where
+    times_on : many * at t.counts (3 * z + digit_z) ≡ product (z + 1) (count_at t number)
     unfolding count_at
-    times_on = rw (add-one z, product_last z (count_at t number), digit_is number z digits C.digits_are, C.many_are)
+    times_on = rw (add-one z, product_last z (count_at t number), e, C.many_are)
 
-    pub times_fit : many * at t.counts (3 * z + digits % 3) ≤ 4294967296
+    pub times_fit : many * at t.counts (3 * z + digit_z) ≤ 4294967296
     times_fit = omega (arith, times_on, product_low (z + 1) (count_at t number) (omega arith) (λ w l. few_at w (omega arith)))
 
-    pub chosen_on : (x : ℕ) → x ≡ at t.samples (3 * z + digits % 3)
+    pub chosen_on : (x : ℕ) → x ≡ at t.samples (3 * z + digit_z)
         → Chosen t number location (z + 1) (record { location = part.location; intervals = set part.intervals z x; ranks = part.ranks })
-        (many * at t.counts (3 * z + digits % 3)) (digits / 3)
+        (many * at t.counts (3 * z + digit_z))
     unfolding sample_at
-    chosen_on x e = record {
+    chosen_on x f = record {
       located = C.located;
-      intervals = filled_more (sample_at t number) z part.intervals x (omega arith) C.intervals (rw (← digit_is number z digits C.digits_are) e);
+      intervals = filled_more (sample_at t number) z part.intervals x (omega arith) C.intervals (rw (← e) f);
       many_are = times_on;
-      digits_are = digits_on number z digits C.digits_are;
     }
 
   -- all clocks
-  pub chosen_all : (location z : ℕ) (part : Region) (many digits : ℕ) → Chosen t number location z part many digits → z ≡ n
+  pub chosen_all : (location z : ℕ) (part : Region) (many : ℕ) → Chosen t number location z part many → z ≡ n
       → (many ≡ times t n number) × ((part.location ≡ location) × ((row_of n part).intervals ≡ samples_of t n number))
-  chosen_all location z part many digits C e = (
+  chosen_all location z part many C e = (
     rw e at C.many_are,
     (
       C.located,
@@ -146,35 +152,32 @@ module _ (t : Kinds) (n number : ℕ) (four : n ≤ 4) (few : FewOfEach n t) whe
 abbrev pub Loose : ℕ → ℕ → Type 0
 Loose number z = (w : ℕ) → w < z → digit number w ≡ 1 → ⊥
 
-pub loose_on : (number z digits : ℕ) → digits ≡ digits_from number z → Loose number z → (digits % 3 ≡ 1 → ⊥) → Loose number (z + 1)
-loose_on number z digits e before out w h d = go (ℕ_discrete w z)
-  where
-    go : Dec (w ≡ z) → ⊥
-    go (yes q) = out (digit_is number z digits e ∙ (rw q at d))
-    go (no q) = before w (omega arith) d
+pub loose_where : (b : Bool) (number n : ℕ) (digits : List ℕ) → n ≤ 4 → ((z : ℕ) → z < 4 → at digits z ≡ digit number z) → b ≡ allb n (λ (z : ℕ). not (eqb (at digits z) 1)) → b ≡ true → Loose number n
+loose_where b number n digits few are e t z h f =
+    refutes (not (eqb (at digits z) 1)) (λ p. p, λ p. p) (ap not (eq-eqb _ _ (are z (omega arith) ∙ f))) ((allb_law n (λ (z : ℕ). not (eqb (at digits z) 1)) (λ z. (λ p. p, λ p. p))).0 (sym e ∙ t) z h)
 
 -- the rankings of a part --------------------------------------------------------------------------------------------------------------
 
-placed_taken : (ms : List Move) (g n : ℕ) (js ks : List ℕ) → placed_at ms g n js ks ≡ placed_at ms g n (take n js) (take n ks)
-placed_taken ms g n js ks =
-    same_test _ _ (λ h. h, λ h. h) (
-      placed_less ms g n n (take n js) (take n ks) js ks (omega arith) (λ z h. (at_take n js z h, at_take n ks z h)),
-      placed_less ms g n n js ks (take n js) (take n ks) (omega arith) (λ z h. (sym (at_take n js z h), sym (at_take n ks z h))),
-    )
+-- those that pass, by number
+filter_map : {A : Type 0} (p : A → Bool) (f : ℕ → A) (js : List ℕ) → length (filter (λ (j : ℕ). p (f j)) js) ≡ length (select p (map f js))
+filter_map p f [] = refl
+filter_map p f (j ∷ js) = go (p (f j)) (filter_map p f js)
+  where
+    go : (b : Bool) → length (filter (λ (j : ℕ). p (f j)) js) ≡ length (select p (map f js))
+        → length (cond b (j ∷ filter (λ (j : ℕ). p (f j)) js) (filter (λ (j : ℕ). p (f j)) js)) ≡ length (cond b (f j ∷ select p (map f js)) (select p (map f js)))
+    go true e = ap suc e
+    go false e = e
 
--- one ranking more
-pub allowed_more : (s : Search) (rows : List Row) (j before now : ℕ) (v : Region) (b : Bool) (d : Row) → j < length rows → before ≡ length (select (allowsb s) (take j rows))
-    → row_of s.clocks.count v ≡ get_or rows j d → b ≡ placed_at s.moves.each s.moves.ranks s.clocks.count v.intervals v.ranks → now ≡ before + one_if b
-    → now ≡ length (select (allowsb s) (take (j + 1) rows))
-allowed_more s rows j before now v b d h e r p q =
-    q ∙ ap (λ (x : ℕ). x + one_if b) e
-    ∙ selected_more (allowsb s) rows j d b h (p ∙ placed_taken s.moves.each s.moves.ranks s.clocks.count v.intervals v.ranks ∙ ap (allowsb s) r)
-    ∙ ap (λ (i : ℕ). length (select (allowsb s) (take i rows))) (sym (add-one j))
-
-pub allowed_all : (s : Search) (l : ℕ) (js : List ℕ) (j total : ℕ) → total ≡ length (select (allowsb s) (take j (ranked_rows (bounds_of s.clocks) l js)))
-    → length (ranked_rows (bounds_of s.clocks) l js) ≤ j → total ≡ ways s l js
+pub tried_all : (s : Search) (l : ℕ) (js : List ℕ) (d : Row) (n : ℕ) → n ≡ length (ranked_rows (bounds_of s.clocks) l js)
+    → length (filter (λ (j : ℕ). allowsb s (get_or (ranked_rows (bounds_of s.clocks) l js) j d)) (range_with_len 0 n)) ≡ ways s l js
 unfolding ways
-allowed_all s l js j total e h = e ∙ ap (λ (rows : List Row). length (select (allowsb s) rows)) (take_all j (ranked_rows (bounds_of s.clocks) l js) h)
+tried_all s l js d n e =
+    filter_map (allowsb s) (λ (j : ℕ). get_or (ranked_rows (bounds_of s.clocks) l js) j d) (range_with_len 0 n)
+    ∙ ap (λ (rows : List Row). length (select (allowsb s) rows)) (sym (fill_by_all _ (ranked_rows (bounds_of s.clocks) l js) n d (sym e) (λ k h. refl)))
+
+-- one ranking, tried
+pub ranking_tried : (s : Search) (r : Row) (v : Region) (b : Bool) (n : ℕ) → row_of s.clocks.count v ≡ r → n ≡ s.clocks.count → b ≡ placed_at s.moves.each s.moves.ranks n v.intervals v.ranks → b ≡ allowsb s r
+ranking_tried s r v b n e d p = p ∙ ap (λ (m : ℕ). placed_at s.moves.each s.moves.ranks m v.intervals v.ranks) d ∙ placed_first s.moves.each s.moves.ranks s.clocks.count v.intervals v.ranks ∙ ap (allowsb s) e
 
 -- the rows of a pattern ---------------------------------------------------------------------------------------------------------------
 
@@ -241,15 +244,6 @@ module _ (s : Search) (R : Ready s) (four : length s.clocks.bounds ≡ 4) (t : K
 pub few_of_each : (s : Search) → Ready s → (t : Kinds) → Counts s t → ((z : ℕ) → z < s.clocks.count → at s.clocks.bounds z ≤ 127) → FewOfEach s.clocks.count t
 few_of_each s R t T low z d h l = omega (arith, T.counts z d h l, of_kind_le (move_at s z) d ((move_at s z).top + 1), R.tops z h, low z h)
 
-pub pattern_counts : (n : ℕ) → n ≤ 4 → get_or (1 ∷ 3 ∷ 9 ∷ 27 ∷ 81 ∷ []) n 0 ≡ patterns n
-unfolding patterns
-pattern_counts zero h = refl
-pattern_counts (suc zero) h = refl
-pattern_counts (suc (suc zero)) h = refl
-pattern_counts (suc (suc (suc zero))) h = refl
-pattern_counts (suc (suc (suc (suc zero)))) h = refl
-pattern_counts (suc (suc (suc (suc (suc n))))) h = absurd (omega arith)
-
 pub patterns_low : (n : ℕ) → n ≤ 4 → patterns n ≤ 81
 unfolding patterns
 patterns_low zero h = omega arith
@@ -259,24 +253,35 @@ patterns_low (suc (suc (suc zero))) h = omega arith
 patterns_low (suc (suc (suc (suc zero)))) h = omega arith
 patterns_low (suc (suc (suc (suc (suc n))))) h = absurd (omega arith)
 
--- the sum so far, which does not wrap
-pub record Summed (f : ℕ → ℕ) (number total : ℕ) : Type 0 where
-  pub sum : total ≡ sum_below number f
-  pub low : total ≤ 322122547200 * number
-
-pub summed_none : (f : ℕ → ℕ) → Summed f 0 0
+-- the sum of what the numbers below one give
+pub sum_is : (f : ℕ → ℕ) (n : ℕ) → sum (map f (range_with_len 0 n)) ≡ sum_below n f
 unfolding sum_below
-summed_none f = record { sum = refl; low = omega arith }
+sum_is f zero = refl
+sum_is f (suc n) =
+    let e = ap (λ (k : ℕ). sum (map f (range_with_len 0 k))) {x = suc n} {y = n + 1} (omega arith) ∙ ap sum (map-range_with_len_more f 0 n n (omega arith)) in
+    omega (arith, e, sum_by-append (λ (x : ℕ). x) (map f (range_with_len 0 n)) (f n ∷ []), sum_is f n)
 
-pub summed_more : (f : ℕ → ℕ) (number total x : ℕ) → Summed f number total → x ≡ f number → x ≤ 322122547200 → Summed f (number + 1) (total + x)
+sum_low : (f : ℕ → ℕ) (n m : ℕ) → ((k : ℕ) → f k ≤ m) → sum_below n f ≤ n * m
 unfolding sum_below
-summed_more f number total x S e l = record { sum = rw (add-one number, ← S.sum, e); low = omega (arith, S.low) }
+sum_low f zero m h = omega arith
+sum_low f (suc n) m h = omega (arith, sum_low f n m h, h n)
 
 pub nowhere : (w : Way) → w.leads ≡ false → 0 ≡ length (way_rows w)
 unfolding way_rows
 nowhere w e = rw e
 
-pub way_summed : (w : Way) → Ready w.search → length w.search.clocks.bounds ≡ 4 → (t : Kinds) → Counts w.search t → w.leads ≡ true
-    → (number total : ℕ) → Summed (pattern_rows w.search w.target t) number total → number ≡ patterns w.search.clocks.count → total ≡ length (way_rows w)
-unfolding way_rows
-way_summed w R four t T e number total S d = rw e (S.sum ∙ ap (λ (k : ℕ). sum_below k (pattern_rows w.search w.target t)) d ∙ sym (patterns_total w.search R four w.target t T))
+module _ (w : Way) (R : Ready w.search) (four : length w.search.clocks.bounds ≡ 4) (t : Kinds) (T : Counts w.search t) (few : FewOfEach w.search.clocks.count t)
+    (k : ℕ) (d : k ≡ patterns w.search.clocks.count) where
+  pub sum_fits : sum (map (pattern_rows w.search w.target t) (range_with_len 0 k)) < 18446744073709551616
+  sum_fits =
+      omega (
+        arith,
+        sum_is (pattern_rows w.search w.target t) k,
+        sum_low (pattern_rows w.search w.target t) k 322122547200 (λ i. pattern_low w.search R four t T few w.target i),
+        patterns_low w.search.clocks.count R.few.few,
+        d,
+      )
+
+  pub way_summed : w.leads ≡ true → sum (map (pattern_rows w.search w.target t) (range_with_len 0 k)) ≡ length (way_rows w)
+  unfolding way_rows
+  way_summed e = rw e (sum_is (pattern_rows w.search w.target t) k ∙ ap (λ (i : ℕ). sum_below i (pattern_rows w.search w.target t)) d ∙ sym (patterns_total w.search R four w.target t T))

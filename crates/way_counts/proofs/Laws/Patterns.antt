@@ -17,22 +17,9 @@ use Rattle.way_counts.proofs.Laws.Sums.{total, total_same, total_none, total_gat
 
 -- digits ------------------------------------------------------------------------------------------------------------------------------
 
-pub digit_first : (k : ℕ) → digit k 0 ≡ k % 3
-unfolding digit digits_from
-digit_first k = refl
-
-pub digit_later : (k z : ℕ) → digit k (suc z) ≡ digit (k / 3) z
-unfolding digit digits_from
-digit_later k z = refl
-
 pub digit_low : (k z : ℕ) → digit k z < 3
 unfolding digit
 digit_low k z = omega arith
-
-pub digits_next : (k z : ℕ) → digits_from k (suc z) ≡ digits_from k z / 3
-unfolding digits_from
-digits_next k zero = refl
-digits_next k (suc z) = digits_next (k / 3) z
 
 -- one clock ---------------------------------------------------------------------------------------------------------------------------
 

@@ -7,8 +7,7 @@ use mathlib.Core.Path.{◌≡◌, refl, sym, ap, ◌∙◌}
 use mathlib.Core.Bool.{Bool, true, false, cond, ◌&&◌}
 use mathlib.Core.List.Memᴰ
 use mathlib.Core.List.{List, [], ◌∷◌, ◌++◌, map}
-use lib.ListN.{length, get_or, take, length-append}
-use lib.Seq.{take-suc}
+use lib.ListN.{length, length-append}
 use Rattle.automata.specs.Closed.{Mem}
 use Rattle.automata.specs.Clocks.{one_if}
 use Rattle.automata.specs.Rows.{from, select, gather, choices}
@@ -41,16 +40,6 @@ module _ {A : Type 0} where
       go : (b : Bool) → cond b (x ∷ (select p xs ++ select p ys)) (select p xs ++ select p ys) ≡ cond b (x ∷ select p xs) (select p xs) ++ select p ys
       go true = refl
       go false = refl
-
-  -- those of the first elements that pass: one element more
-  pub selected_more : (p : A → Bool) (xs : List A) (j : ℕ) (d : A) (b : Bool) → j < length xs → b ≡ p (get_or xs j d)
-      → length (select p (take j xs)) + one_if b ≡ length (select p (take (suc j) xs))
-  selected_more p xs j d b h e = rw e (sym (ap (λ (l : List A). length (select p l)) (take-suc xs j d h) ∙ ap length (select_append p (take j xs) (get_or xs j d ∷ []))
-      ∙ length-append (select p (take j xs)) (select p (get_or xs j d ∷ [])) ∙ ap (λ (n : ℕ). length (select p (take j xs)) + n) (one (p (get_or xs j d)))))
-    where
-      one : (b : Bool) → length (cond b (get_or xs j d ∷ []) []) ≡ one_if b
-      one true = refl
-      one false = refl
 
   pub selected_le : (p : A → Bool) (xs : List A) → length (select p xs) ≤ length xs
   selected_le p [] = omega arith

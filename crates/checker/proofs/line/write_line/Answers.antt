@@ -8,16 +8,9 @@ use mathlib.Core.Path.{◌≡◌}
 use native.Mathlib.Omega.{arith}
 use Rattle.checker.proofs.line.write_line.Goals as goal
 
-pub returns-clause-length : goal.returns-clause-length
-returns-clause-length c =
+pub returns : goal.returns
+returns c =
     let long : length c.args.out.now ≡ 32 = search rules in
     let w = c.write_verdict-end in
     let e = line_ended c.args.out.now w.new.out (ascii (line_of c.args.verdict)) w.result w.ensures.length w.ensures.text (omega (arith, w.ensures.few)) in
-    rw (text_is c.args.verdict) e.0
-
-pub returns-clause-text : goal.returns-clause-text
-returns-clause-text c =
-    let long : length c.args.out.now ≡ 32 = search rules in
-    let w = c.write_verdict-end in
-    let e = line_ended c.args.out.now w.new.out (ascii (line_of c.args.verdict)) w.result w.ensures.length w.ensures.text (omega (arith, w.ensures.few)) in
-    rw (text_is c.args.verdict) e.1
+    record { few = omega (arith, w.ensures.few); length = rw (text_is c.args.verdict) e.0; text = rw (text_is c.args.verdict) e.1 }

@@ -1,4 +1,3 @@
-use Prim.Native.Nat.{◌-◌, ◌≤◌}
 use Rattle.automata.specs.Rows.{select}
 use Rattle.edge_walk.specs.Choice.{allowsb}
 use Rattle.following.proofs.Laws.Put.{Put}
@@ -8,7 +7,4 @@ use lib.ListN.{take}
 use Rattle.following.proofs.writing.write_ranked.Given as goal
 
 abbrev pub invariant-loop-j : goal.invariant-loop-j
-invariant-loop-j l = (l.j ≤ l.count) × (Put (select (allowsb (record { clocks = l.clocks; moves = l.moves })) (take l.j (rows_ranked l.clocks l.part))) l.initial.buffer l.buffer l.at × Kept (record { clocks = l.clocks; moves = l.moves }) l.memo)
-
-abbrev pub decreases-loop-j : goal.decreases-loop-j
-decreases-loop-j l = l.count - l.j
+invariant-loop-j l = Put (select (allowsb (record { clocks = l.clocks; moves = l.moves })) (take l.j (rows_ranked l.clocks l.part))) l.initial.buffer l.buffer l.at × Kept (record { clocks = l.clocks; moves = l.moves }) l.memo

@@ -6,6 +6,6 @@ pub interval_gap-gap-requires-clause-standing : goal.interval_gap-gap-requires-c
 interval_gap-gap-requires-clause-standing c =
     (rw c.start_in.ensures (starts c.open_way-way.result c.open_way-way.ensures.ready (not-false _ c.if-not-way.false)))
 
-pub all_inside-seen-requires-clause-standing : goal.all_inside-seen-requires-clause-standing
-all_inside-seen-requires-clause-standing c =
+pub all_inside-requires-clause-standing : goal.all_inside-requires-clause-standing
+all_inside-requires-clause-standing c =
     (rw c.start_in-2.ensures (starts c.open_way-way.result c.open_way-way.ensures.ready (not-false _ c.if-not-way.false)))

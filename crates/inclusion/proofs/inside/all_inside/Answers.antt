@@ -3,7 +3,8 @@ use Rattle.edge_walk.proofs.Laws.Visit.{visit_ends}
 use Rattle.ranked_ways.proofs.Laws.Memo.{kept_none}
 use Rattle.ranked_ways.proofs.Laws.Visit.{chosen_fails, chosen_on}
 use borrow.Author.Rules.{rules}
-use borrow.Author.Tests.{not-true, not-false}
+use Rattle.std.proofs.lemmas.Result.{err_from_is_err_and}
+use mathlib.Core.Path.{refl}
 use native.Mathlib.Omega.{arith}
 use Rattle.inclusion.proofs.inside.all_inside.Goals as goal
 
@@ -11,25 +12,13 @@ pub loop-stand-init : goal.loop-stand-init
 loop-stand-init c =
     (sets_out _ _ _ c.requires.standing, c.requires.chosen, kept_none _)
 
-pub look-seen-requires-clause-chosen : goal.look-seen-requires-clause-chosen
-look-seen-requires-clause-chosen c =
-    c.loop-stand.invariant.1
-
-pub look-seen-requires-clause-kept : goal.look-seen-requires-clause-kept
-look-seen-requires-clause-kept c =
-    c.loop-stand.invariant.2
-
-pub returns-then-not-seen : goal.returns-then-not-seen
-returns-then-not-seen c =
-    chosen_fails _ c.requires.ready (search rules) _ _ _ c.loop-stand.invariant.0 c.loop-stand.invariant.1 _ c.look-seen.ensures.listed (not-true _ c.if-not-seen.true)
-
-pub loop-stand-smaller : goal.loop-stand-smaller
-loop-stand-smaller c =
-    c.step_intervals-stand.ensures.step.fewer
+pub returns-in_err-last : goal.returns-in_err-last
+returns-in_err-last c =
+    rw (err_from_is_err_and c.from_residual.result c.from_residual.ensures.1).1 (chosen_fails _ c.requires.ready (search rules) _ _ _ c.loop-stand.invariant.0 c.loop-stand.invariant.1 _ c.in_err-last.ensures.listed refl)
 
 pub loop-stand-preserved : goal.loop-stand-preserved
 loop-stand-preserved c =
-    (chosen_on _ c.requires.ready (search rules) _ _ _ c.loop-stand.invariant.0 c.loop-stand.invariant.1 _ c.look-seen.ensures.listed (not-false _ c.if-not-seen.false) _ c.step_intervals-stand.ensures.step, c.step_intervals-stand.ensures.chosen, c.look-seen.ensures.memo)
+    (chosen_on _ c.requires.ready (search rules) _ _ _ c.loop-stand.invariant.0 c.loop-stand.invariant.1 _ c.in_ok-last.ensures.listed refl _ c.step_intervals-stand.ensures.step, c.step_intervals-stand.ensures.chosen, c.look.ensures.memo)
 
 pub returns : goal.returns
 returns c =

@@ -1,4 +1,3 @@
-use Prim.Native.Nat.{◌-◌, ◌≤◌}
 use Rattle.automata.specs.Checks.{every, has}
 use Rattle.automata.specs.Rows.{select}
 use Rattle.edge_walk.specs.Choice.{allowsb}
@@ -11,9 +10,5 @@ use Rattle.inclusion.proofs.inside.ranked_inside.Given as goal
 
 abbrev pub invariant-loop-j : goal.invariant-loop-j
 invariant-loop-j l =
-    (l.j ≤ l.all)
-    × (every (has (listed_rows l.clocks.count l.list l.count)) (select (allowsb l.fn.search) (rows_ranked l.clocks l.part)) ≡ every (has (listed_rows l.clocks.count l.list l.count)) (select (allowsb l.fn.search) (drop l.j (rows_ranked l.clocks l.part))))
+    (every (has (listed_rows l.clocks.count l.list l.count)) (select (allowsb l.fn.search) (rows_ranked l.clocks l.part)) ≡ every (has (listed_rows l.clocks.count l.list l.count)) (select (allowsb l.fn.search) (drop l.j (rows_ranked l.clocks l.part))))
     × Kept l.fn.search l.memo
-
-abbrev pub decreases-loop-j : goal.decreases-loop-j
-decreases-loop-j l = l.all - l.j

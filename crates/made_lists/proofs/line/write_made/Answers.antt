@@ -8,20 +8,11 @@ use mathlib.Core.Path.{◌≡◌}
 use native.Mathlib.Omega.{arith}
 use Rattle.made_lists.proofs.line.write_made.Goals as goal
 
-pub returns-clause-length : goal.returns-clause-length
+pub returns : goal.returns
 unfolding made_text
-returns-clause-length c =
+returns c =
     let long : length c.args.out.now ≡ 32 = search rules in
     let w = c.write_answer-end in
     let line = made_line (answer_of c.args.answer) in
     let e = line_ended c.args.out.now w.new.out (ascii line) w.result w.ensures.length w.ensures.text (omega (arith, w.ensures.few)) in
-    rw (newline line) e.0
-
-pub returns-clause-text : goal.returns-clause-text
-unfolding made_text
-returns-clause-text c =
-    let long : length c.args.out.now ≡ 32 = search rules in
-    let w = c.write_answer-end in
-    let line = made_line (answer_of c.args.answer) in
-    let e = line_ended c.args.out.now w.new.out (ascii line) w.result w.ensures.length w.ensures.text (omega (arith, w.ensures.few)) in
-    rw (newline line) e.1
+    record { few = omega (arith, w.ensures.few); length = rw (newline line) e.0; text = rw (newline line) e.1 }

@@ -1,49 +1,26 @@
-use Prim.Native.Nat.{ℕ, ◌+◌, ◌*◌, ◌≤◌}
 use Rattle.calls.specs.RegionFile.{row_width}
 use Rattle.making_turns.proofs.Laws.Ending.{overfull_ends, refused_loops, short_before}
 use Rattle.making_turns.proofs.Laws.Turning.{new_is_row, added_loops, adding_left, refusing_left}
-use lib.ListN.{length}
-use mathlib.Core.Path.{sym, subst}
-use native.Mathlib.Numerals.{add-one}
 use Rattle.making_turns.proofs.turning.add.Goals as goal
 
 pub returns-then-not-has_room-clause-loops : goal.returns-then-not-has_room-clause-loops
 returns-then-not-has_room-clause-loops c =
-    λ table before records ws S C. refused_loops table before records _ ws c.args.s 20 _ c.refusing.ensures c.args.out.now c.clear.ensures S.grown.same_length (overfull_ends table before records _ ws c.args.s S c.args.row C (short_before c.args.s.count (row_width c.args.s.head.clocks.count) c.args.out.now before S.grown.same_length (c.has_room.ensures.no c.if-not-has_room.true)))
+    λ table before records ws S C. refused_loops c.args.s c.args.out.now c.refusing.ensures c.clear.ensures S.grown.same_length (overfull_ends S c.args.row C (short_before c.args.s.count (row_width c.args.s.head.clocks.count) c.args.out.now before S.grown.same_length (c.has_room.ensures.no c.if-not-has_room.true)))
 
 pub returns-then-not-has_room-clause-falls : goal.returns-then-not-has_room-clause-falls
 returns-then-not-has_room-clause-falls c =
     let (table₀, before₀, records₀, ws₀, S₀, C₀) = c.requires in
     rw c.refusing.ensures (refusing_left c.args.s 20 0 S₀.on)
 
-pub insert-requires-clause-listed : goal.insert-requires-clause-listed
-insert-requires-clause-listed c =
-    let (table₀, before₀, records₀, ws₀, S₀, C₀) = c.requires in
-    S₀.grown.listed
-
-pub insert-requires-clause-at_le_count : goal.insert-requires-clause-at_le_count
-insert-requires-clause-at_le_count c =
-    let (few, room) = c.has_room.ensures.yes c.if-not-has_room.false in
-    (c.rows_below-at.ensures.within, few)
-
-pub insert-requires-clause-count_in_bounds : goal.insert-requires-clause-count_in_bounds
-insert-requires-clause-count_in_bounds c =
-    let (few, room) = c.has_room.ensures.yes c.if-not-has_room.false in
-    subst (λ (t : ℕ). 4 + t * row_width c.args.s.head.clocks.count ≤ length c.args.out.now) (sym (add-one c.args.s.count)) room
-
 pub insert-requires-clause-row : goal.insert-requires-clause-row
 insert-requires-clause-row c =
     let (table₀, before₀, records₀, ws₀, S₀, C₀) = c.requires in
-    new_is_row table₀ before₀ records₀ c.args.out.now ws₀ c.args.s S₀ c.args.row C₀
-
-pub adding-requires : goal.adding-requires
-adding-requires c =
-    (c.has_room.ensures.yes c.if-not-has_room.false).0
+    new_is_row S₀ c.args.row C₀
 
 pub returns-clause-loops : goal.returns-clause-loops
 returns-clause-loops c =
     let (few, room) = c.has_room.ensures.yes c.if-not-has_room.false in
-    λ table before records ws S C. rw c.adding.ensures (added_loops table before records _ ws c.args.s S c.args.row C few room _ c.rows_below-at.ensures _ c.insert.ensures)
+    λ table before records ws S C. rw c.adding.ensures (added_loops S c.args.row C few room _ c.rows_below-at.ensures _ c.insert.ensures)
 
 pub returns-clause-falls : goal.returns-clause-falls
 returns-clause-falls c =

@@ -1,6 +1,8 @@
+use Rattle.making_turns.proofs.Laws.Ending.{refused_loops}
+use mathlib.Core.Path.{refl}
 use Prim.Native.Nat.{ℕ, ◌+◌, ◌≤◌, ◌<◌}
 use Rattle.calls.proofs.Laws.Rows.{row_width_is}
-use Rattle.making_turns.proofs.Laws.Beginning.{refused_as, begins_headless, begins_final, begins_full, initial_in, initial_is, first_region, first_is_row, none_listed, begins}
+use Rattle.making_turns.proofs.Laws.Beginning.{begins_headless, begins_final, begins_full, initial_in, initial_is, first_region, first_is_row, none_listed, begins}
 use lib.ListN.{length}
 use mathlib.Core.Path.{subst}
 use native.Mathlib.Omega.{arith}
@@ -9,7 +11,7 @@ use Rattle.making_turns.proofs.turning.begin_rows.Goals as goal
 pub returns-then-out-lt4 : goal.returns-then-out-lt4
 returns-then-out-lt4 c =
     let D = c.requires in
-    λ records ws enough sized. refused_as c.args.table.now c.args.out.now records c.starting-none.result ws 20 0 _ c.clear.ensures _ c.refusing.ensures (begins_headless c.args.table.now c.args.out.now records c.starting-none.result ws c.args.head D c.if-out-lt4.true)
+    λ records ws enough sized. refused_loops c.starting-none.result c.args.out.now c.refusing.ensures c.clear.ensures refl (begins_headless D c.starting-none.result c.if-out-lt4.true)
 
 pub is_final-requires-clause-location_lt_locations : goal.is_final-requires-clause-location_lt_locations
 is_final-requires-clause-location_lt_locations c =
@@ -18,7 +20,7 @@ is_final-requires-clause-location_lt_locations c =
 pub returns-then-is_final : goal.returns-then-is_final
 returns-then-is_final c =
     let D = c.requires in
-    λ records ws enough sized. refused_as c.args.table.now c.args.out.now records c.starting-none.result ws 21 0 _ c.clear-then-is_final.ensures _ c.refusing-then-is_final.ensures (begins_final c.args.table.now c.args.out.now records c.starting-none.result ws c.args.head D c.if-out-lt4.false enough (initial_is c.args.table.now c.args.head D c.args.out.now _ _ c.is_final.ensures c.if-is_final.true))
+    λ records ws enough sized. refused_loops c.starting-none.result c.args.out.now c.refusing-then-is_final.ensures c.clear-then-is_final.ensures refl (begins_final D c.starting-none.result c.if-out-lt4.false enough (initial_is c.args.table.now c.args.head D c.args.out.now _ _ c.is_final.ensures c.if-is_final.true))
 
 pub overflow_add-row_width : goal.overflow_add-row_width
 overflow_add-row_width c =
@@ -28,18 +30,13 @@ overflow_add-row_width c =
 pub returns-then-out-row_width : goal.returns-then-out-row_width
 returns-then-out-row_width c =
     let D = c.requires in
-    λ records ws enough sized. refused_as c.args.table.now c.args.out.now records c.starting-none.result ws 20 0 _ c.clear-then-out-row_width.ensures _ c.refusing-then-out-row_width.ensures (begins_full c.args.table.now c.args.out.now records c.starting-none.result ws c.args.head D (initial_is c.args.table.now c.args.head D c.args.out.now _ _ c.is_final.ensures c.if-is_final.false) (subst (λ (t : ℕ). length c.args.out.now < 4 + t) c.row_width.ensures c.if-out-row_width.true))
+    λ records ws enough sized. refused_loops c.starting-none.result c.args.out.now c.refusing-then-out-row_width.ensures c.clear-then-out-row_width.ensures refl (begins_full D c.starting-none.result (initial_is c.args.table.now c.args.head D c.args.out.now _ _ c.is_final.ensures c.if-is_final.false) (subst (λ (t : ℕ). length c.args.out.now < 4 + t) c.row_width.ensures c.if-out-row_width.true))
 
 pub insert-requires-clause-listed : goal.insert-requires-clause-listed
 insert-requires-clause-listed c =
     let D = c.requires in
     let room = subst (λ (t : ℕ). 4 + t ≤ length c.args.out.now) c.row_width.ensures c.if-out-row_width.false in
     none_listed c.args.table.now c.args.head D c.args.out.now (omega (arith, room))
-
-pub insert-requires-clause-count_in_bounds : goal.insert-requires-clause-count_in_bounds
-insert-requires-clause-count_in_bounds c =
-    let room = subst (λ (t : ℕ). 4 + t ≤ length c.args.out.now) c.row_width.ensures c.if-out-row_width.false in
-    omega (arith, room)
 
 pub insert-requires-clause-row : goal.insert-requires-clause-row
 insert-requires-clause-row c =

@@ -4,7 +4,7 @@ use Rattle.making_turns.proofs.turning.conclude.Goals as goal
 
 pub returns-then-s-clause-loops : goal.returns-then-s-clause-loops
 returns-then-s-clause-loops c =
-    λ table before records ws S. refused_loops table before records _ ws c.args.s 21 _ c.refusing.ensures c.args.out.now c.clear.ensures S.grown.same_length (entered_ends table before records _ ws c.args.s S c.requires.walking_value.0 c.requires.walking_value.1 c.requires.walking_value.2 c.if-s.true)
+    λ table before records ws S. refused_loops c.args.s c.args.out.now c.refusing.ensures c.clear.ensures S.grown.same_length (entered_ends S c.requires.walking_value.0 c.requires.walking_value.1 c.requires.walking_value.2 c.if-s.true)
 
 pub returns-then-s-clause-falls : goal.returns-then-s-clause-falls
 returns-then-s-clause-falls c =
@@ -13,7 +13,7 @@ returns-then-s-clause-falls c =
 
 pub returns-clause-loops : goal.returns-clause-loops
 returns-clause-loops c =
-    λ table before records ws S. ended_loops table before records _ ws c.args.s _ c.ending.ensures (list_ends table before records _ ws c.args.s S c.requires.walking_value.0 c.requires.walking_value.1 c.requires.walking_value.2 c.if-s.false _ c.finish.ensures)
+    λ table before records ws S. ended_loops c.args.s c.ending.ensures (list_ends S c.requires.walking_value.0 c.requires.walking_value.1 c.requires.walking_value.2 c.if-s.false _ c.finish.ensures)
 
 pub returns-clause-falls : goal.returns-clause-falls
 returns-clause-falls c =

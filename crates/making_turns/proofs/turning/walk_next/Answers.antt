@@ -5,7 +5,7 @@ use Rattle.making_turns.proofs.turning.walk_next.Goals as goal
 
 pub returns-then-s-clause-loops : goal.returns-then-s-clause-loops
 returns-then-s-clause-loops c =
-    λ table before records ws S. rw c.to_rows.ensures (goes_on table before records _ ws _ (rows_stand table before records _ ws c.args.s S c.requires.walking_value.0 c.requires.walking_value.1 c.if-s.true))
+    λ table before records ws S. rw c.to_rows.ensures (goes_on (rows_stand S c.requires.walking_value.0 c.requires.walking_value.1 c.if-s.true))
 
 pub returns-then-s-clause-falls : goal.returns-then-s-clause-falls
 returns-then-s-clause-falls c =

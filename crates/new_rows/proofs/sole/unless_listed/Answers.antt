@@ -1,16 +1,13 @@
 use Rattle.listed_rows.specs.Listed.{listed_rows}
-use Rattle.new_rows.proofs.Laws.New.{sole_missing, sole_listed, sole_new}
-use borrow.Author.Tests.{not-true, not-false}
+use Rattle.new_rows.proofs.Laws.New.{sole_missing, sole_new}
+use Rattle.new_rows.proofs.sole.unless_listed.Goals.{else-next-via-then-next+else-is_ok, else-next-via-else-next}
+use mathlib.Core.Path.{sym, ◌∙◌}
 use Rattle.new_rows.proofs.sole.unless_listed.Goals as goal
 
-pub returns-then-not-next : goal.returns-then-not-next
-returns-then-not-next c =
-    sole_missing c.args.clocks.count (listed_rows c.args.clocks.count c.args.list.now c.args.count) c.args.next (not-true _ c.if-not-next.true)
-
-pub returns-then-not-found : goal.returns-then-not-found
-returns-then-not-found c =
-    sole_new c.args.clocks.count (listed_rows c.args.clocks.count c.args.list.now c.args.count) c.args.next (not-false _ c.if-not-next.false) _ c.find-found.ensures (not-true _ c.if-not-found.true)
-
-pub returns : goal.returns
-returns c =
-    sole_listed c.args.clocks.count (listed_rows c.args.clocks.count c.args.list.now c.args.count) c.args.next (not-false _ c.if-not-next.false) _ c.find-found.ensures (not-false _ c.if-not-found.false) _ c.missing.ensures
+pub returns-else-next : goal.returns-else-next
+returns-else-next c =
+    let rows = listed_rows c.args.clocks.count c.args.list.now c.args.count in
+    elim c.else-next.branch [
+      | else-next-via-then-next+else-is_ok w ↦ sole_new c.args.clocks.count rows c.args.next w.if-next.true _ w.find.ensures (sym w.is_ok.ensures.value ∙ w.if-is_ok.false)
+      | else-next-via-else-next w ↦ sole_missing c.args.clocks.count rows c.args.next w.if-next.false
+    ]

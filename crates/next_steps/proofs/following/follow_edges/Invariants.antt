@@ -1,4 +1,3 @@
-use Prim.Native.Nat.{suc, ◌-◌}
 use Rattle.listed_rows.specs.Listed.{listed_rows}
 use Rattle.next_steps.proofs.Laws.Following.{Begins, Along}
 use Rattle.regions.specs.Values.{row_of}
@@ -7,6 +6,3 @@ use Rattle.next_steps.proofs.following.follow_edges.Given as goal
 
 abbrev pub invariant-loop-k : goal.invariant-loop-k
 invariant-loop-k l = (Along (table_of l.table) (listed_rows l.head.clocks.count l.list l.count) (row_of l.head.clocks.count l.from) l.step l.entered l.k l.seen) × Begins l.table l.head l.k l.at
-
-abbrev pub decreases-loop-k : goal.decreases-loop-k
-decreases-loop-k l = suc l.head.edges - l.k

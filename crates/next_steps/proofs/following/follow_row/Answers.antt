@@ -6,7 +6,6 @@ use Rattle.regions.specs.Values.{row_of}
 use Rattle.table_files.specs.Admission.{table_of}
 use Rattle.table_records.proofs.Laws.Skips.{skip_none}
 use mathlib.Core.Path.{refl, sym, subst, ◌∙◌}
-use native.Mathlib.Omega.{arith}
 use Rattle.next_steps.proofs.following.follow_row.Goals as goal
 
 pub follow_edges-requires-clause-by_index : goal.follow_edges-requires-clause-by_index
@@ -21,10 +20,6 @@ returns-then-next-clause-follows c =
     let r = row_of c.args.head.clocks.count c.args.from in
     let T = table_of c.args.table.now in
     subst (λ (t : ℕ). Follows T rows c.args.head.clocks.count t r c.args.entered (record { next = c.new_by_waiting-next.result; step = 0; here = c.args.here; entered = c.args.entered; «from» = c.missing.result })) (sym c.if-step-ne0.false) (waits_new c.args.table.now c.args.head D rows r c.args.entered c.new_by_waiting-next.result c.new_by_waiting-next.ensures c.if-next.true c.args.here c.missing.result c.missing.ensures)
-
-pub returns-then-next-clause-here : goal.returns-then-next-clause-here
-returns-then-next-clause-here c =
-    λ j q. absurd (omega arith)
 
 pub follow_edges-requires-2-clause-by_index : goal.follow_edges-requires-2-clause-by_index
 follow_edges-requires-2-clause-by_index c =

@@ -1,4 +1,4 @@
-use Prim.Native.Nat.{ℕ, ◌-◌, ◌≤◌, ◌<◌}
+use Prim.Native.Nat.{ℕ, ◌≤◌, ◌<◌}
 use Rattle.kept_rows.specs.Births.{birth}
 use Rattle.selection.specs.Chosen.{taken_at}
 use lib.Dec.{ltb}
@@ -7,7 +7,4 @@ use mathlib.Core.Path.{◌≡◌}
 use Rattle.next_steps.proofs.walking.mark_old.Given as goal
 
 abbrev pub invariant-loop-i : goal.invariant-loop-i
-invariant-loop-i l = ((l.start ≤ l.i) × (l.i ≤ l.end)) × ((length l.old ≡ 4096) × ((j : ℕ) → l.start ≤ j → j < l.i → taken_at l.old j ≡ ltb (birth l.n l.list j) l.first))
-
-abbrev pub decreases-loop-i : goal.decreases-loop-i
-decreases-loop-i l = l.end - l.i
+invariant-loop-i l = (length l.old ≡ 4096) × ((j : ℕ) → l.start ≤ j → j < l.i → taken_at l.old j ≡ ltb (birth l.n l.list j) l.first)

@@ -1,4 +1,3 @@
-use Prim.Native.Nat.{suc, ◌-◌}
 use Rattle.automata.specs.Closed.{Mem}
 use Rattle.listed_rows.specs.Listed.{listed_rows}
 use Rattle.next_steps.proofs.Laws.Following.{Begins}
@@ -11,6 +10,3 @@ use Rattle.next_steps.proofs.walking.walk_edges.Given as goal
 
 abbrev pub invariant-loop-k : goal.invariant-loop-k
 invariant-loop-k l = ((Past (table_of l.table) (listed_rows l.head.clocks.count l.list l.count) l.step l.k) × Begins l.table l.head l.k l.at) × (l.last.found ≡ true → Mem (row_of l.head.clocks.count l.last.region) (listed_rows l.head.clocks.count l.list l.count))
-
-abbrev pub decreases-loop-k : goal.decreases-loop-k
-decreases-loop-k l = suc l.head.edges - l.k

@@ -8,10 +8,10 @@ pub returns-then-end-i : goal.returns-then-end-i
 returns-then-end-i c =
     let e = edge_of c.args.clocks.count c.args.e in let cs = bounds_of c.args.clocks in blocked_all cs e c.args.clocks.count c.args.list.now c.args.count c.args.start c.args.end _ c.first_guarded-i.ensures c.if-end-i.true
 
-pub returns-then-found : goal.returns-then-found
-returns-then-found c =
-    let e = edge_of c.args.clocks.count c.args.e in let cs = bounds_of c.args.clocks in alike_all cs e c.args.clocks.count c.args.list.now c.args.count c.args.start c.args.end _ c.first_guarded-i.ensures c.requires.suited.listed.sized c.requires.suited.listed.few.few c.requires.suited.listed.are_rows c.requires.stretch.within c.requires.reads_none c.requires.stretch.all c.if-end-i.false (sym c.leads_from-found.ensures ∙ c.if-found.true)
+pub returns-then-is_ok : goal.returns-then-is_ok
+returns-then-is_ok c =
+    let e = edge_of c.args.clocks.count c.args.e in let cs = bounds_of c.args.clocks in alike_all cs e c.args.clocks.count c.args.list.now c.args.count c.args.start c.args.end _ c.first_guarded-i.ensures c.requires.suited.listed.sized c.requires.suited.listed.few.few c.requires.suited.listed.are_rows c.requires.stretch.within c.requires.reads_none c.requires.stretch.all c.if-end-i.false (sym c.leads_from.ensures ∙ sym c.is_ok.ensures.value ∙ c.if-is_ok.true)
 
-pub returns : goal.returns
-returns c =
-    let e = edge_of c.args.clocks.count c.args.e in let cs = bounds_of c.args.clocks in blocked_found cs e c.args.clocks.count c.args.list.now c.args.count c.args.start c.args.end _ c.first_guarded-i.ensures (λ t. never (sym (sym c.leads_from-found.ensures ∙ c.if-found.false) ∙ t))
+pub returns-else-is_ok : goal.returns-else-is_ok
+returns-else-is_ok c =
+    let e = edge_of c.args.clocks.count c.args.e in let cs = bounds_of c.args.clocks in blocked_found cs e c.args.clocks.count c.args.list.now c.args.count c.args.start c.args.end _ c.first_guarded-i.ensures (λ t. never (sym (sym c.leads_from.ensures ∙ sym c.is_ok.ensures.value ∙ c.if-is_ok.false) ∙ t))

@@ -23,7 +23,7 @@ leads_to_one-found-requires-clause-row c =
 
 pub returns-clause-known : goal.returns-clause-known
 returns-clause-known c =
-    let e = edge_of c.args.clocks.count c.args.e in let rows = listed_rows c.args.clocks.count c.args.list.now c.args.count in let cs = bounds_of c.args.clocks in let q = c.leads_to_one-found.ensures ∙ ap (λ (r : Row). every (has rows) (edge_rows cs e r)) (listed_again c.args.clocks.count c.args.list.now _ _ c.row_at-row.ensures) in known_kept cs e c.args.clocks.count c.args.list.now c.args.count c.requires.suited.listed.sized c.requires.suited.listed.few.few c.requires.suited.listed.are_rows c.args.members.now c.args.known.now c.requires.known_2 c.args.i c.requires.i_lt_count c.requires.i_value (ap (λ (r : Row). guardsb r e.guards) (sym (listed_again c.args.clocks.count c.args.list.now _ _ c.row_at-row.ensures)) ∙ sym c.guards_hold.ensures ∙ c.if-not-guards_hold.false) _ (rw (listed_again c.args.clocks.count c.args.list.now _ _ c.row_at-row.ensures) at c.reach_of-own.ensures) _ c.slot-k.ensures c.requires.members_len c.requires.known_len _ q
+    let e = edge_of c.args.clocks.count c.args.e in let rows = listed_rows c.args.clocks.count c.args.list.now c.args.count in let cs = bounds_of c.args.clocks in let q = c.is_ok.ensures.value ∙ c.leads_to_one-found.ensures ∙ ap (λ (r : Row). every (has rows) (edge_rows cs e r)) (listed_again c.args.clocks.count c.args.list.now _ _ c.row_at-row.ensures) in known_kept cs e c.args.clocks.count c.args.list.now c.args.count c.requires.suited.listed.sized c.requires.suited.listed.few.few c.requires.suited.listed.are_rows c.args.members.now c.args.known.now c.requires.known_2 c.args.i c.requires.i_lt_count c.requires.i_value (ap (λ (r : Row). guardsb r e.guards) (sym (listed_again c.args.clocks.count c.args.list.now _ _ c.row_at-row.ensures)) ∙ sym c.guards_hold.ensures ∙ c.if-not-guards_hold.false) _ (rw (listed_again c.args.clocks.count c.args.list.now _ _ c.row_at-row.ensures) at c.reach_of-own.ensures) _ c.slot-k.ensures c.requires.members_len c.requires.known_len _ q
 
 pub returns-clause-listed : goal.returns-clause-listed
 returns-clause-listed c =

@@ -1,20 +1,11 @@
 use Prim.Native.Nat.{ℕ}
-use Rattle.automata.specs.Edge.{Edge}
-use Rattle.automata.specs.Successors.{edge_rows}
 use Rattle.listed_rows.specs.Located.{RowsIn}
 use Rattle.regions.specs.Values.{bounds_of, edge_of}
-use Rattle.walked_rows.proofs.Laws.Sides.{side_source, side_target, side_suited, sides_begin, sides_on, sides_pass, sides_all}
+use Rattle.walked_rows.proofs.Laws.Sides.{side_source, side_target, side_suited, sides_all}
 use Rattle.walked_rows.specs.Leading.{Stretch}
-use Rattle.walked_rows.specs.Open.{FirstOpen}
-use Rattle.walked_rows.specs.Open.{Inside}
-use mathlib.Core.Path.{sym, subst, ◌∙◌}
+use mathlib.Core.Path.{sym, subst}
 use native.Mathlib.Omega.{arith}
-use Rattle.open_rows.proofs.leading.first_by_sides.Goals.{then-is_choice, else-is_choice}
 use Rattle.open_rows.proofs.leading.first_by_sides.Goals as goal
-
-pub loop-k-init : goal.loop-k-init
-loop-k-init c =
-    let e = edge_of c.args.clocks.count c.args.e in let cs = bounds_of c.args.clocks in (omega arith, sides_begin cs e c.args.clocks.count c.args.list.now c.args.count c.args.start c.args.end c.requires.stretch.from)
 
 pub first_by_walks-first-requires-clause-suited : goal.first_by_walks-first-requires-clause-suited
 first_by_walks-first-requires-clause-suited c =
@@ -26,12 +17,8 @@ first_by_walks-first-requires-clause-rows_in c =
 
 pub first_by_walks-first-requires-clause-stretch : goal.first_by_walks-first-requires-clause-stretch
 first_by_walks-first-requires-clause-stretch c =
-    let v = c.loop-k.invariant in let l = c.requires.stretch in subst (λ (l : ℕ). Stretch c.args.clocks.count c.args.list.now c.args.count l c.args.start c.loop-k.first) (sym (side_source c.args.clocks c.args.e c.with_sides-side.result c.loop-k.k c.with_sides-side.ensures.means)) (record { from = v.1.from; within = omega (arith, v.1.to, l.within); all = λ i h g. l.all i h (omega (arith, v.1.to)) })
-
-pub loop-k-preserved : goal.loop-k-preserved
-loop-k-preserved c =
-    let e = edge_of c.args.clocks.count c.args.e in let cs = bounds_of c.args.clocks in (omega (arith, c.loop-k-test.true), elim c.if-is_choice.branch [ then-is_choice w ↦ rw w.first-is (sides_on cs e c.args.clocks.count c.args.list.now c.args.count c.args.start c.args.end _ _ c.loop-k.invariant.1 _ (sym c.is_choice.ensures ∙ w.if-is_choice.true) (subst (λ (d : Edge). FirstOpen (Inside (edge_rows cs d) c.args.clocks.count c.args.list.now c.args.count) c.args.start c.loop-k.first w.first_by_walks-first.result) w.with_sides-side.ensures.means w.first_by_walks-first.ensures)) | else-is_choice w ↦ rw w.first-is (sides_pass cs e c.args.clocks.count c.args.list.now c.args.count c.args.start c.args.end _ _ c.loop-k.invariant.1 (sym c.is_choice.ensures ∙ w.if-is_choice.false)) ])
+    let v = c.loop-k.invariant in let l = c.requires.stretch in subst (λ (l : ℕ). Stretch c.args.clocks.count c.args.list.now c.args.count l c.args.start c.loop-k.first) (sym (side_source c.args.clocks c.args.e c.with_sides-side.result c.loop-k.k c.with_sides-side.ensures.means)) (record { from = v.from; within = omega (arith, v.to, l.within); all = λ i h g. l.all i h (omega (arith, v.to)) })
 
 pub returns : goal.returns
 returns c =
-    let e = edge_of c.args.clocks.count c.args.e in let cs = bounds_of c.args.clocks in sides_all cs e c.args.clocks.count c.args.list.now c.args.count c.args.start c.args.end c.requires.suited.listed.sized c.requires.suited.listed.few.few c.requires.suited.bounded c.requires.suited.listed.are_rows c.requires.stretch.within _ _ c.loop-k.invariant.1 (omega (arith, c.loop-k-test.false)) c.loop-k.invariant.0
+    let e = edge_of c.args.clocks.count c.args.e in let cs = bounds_of c.args.clocks in sides_all cs e c.args.clocks.count c.args.list.now c.args.count c.args.start c.args.end c.requires.suited.listed.sized c.requires.suited.listed.few.few c.requires.suited.bounded c.requires.suited.listed.are_rows c.requires.stretch.within _ _ c.loop-k.invariant (omega arith) (omega arith)

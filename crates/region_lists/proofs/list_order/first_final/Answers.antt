@@ -1,35 +1,32 @@
-use Rattle.automata.specs.Automaton.{final}
-use Rattle.listed_rows.proofs.Laws.Listed.{row_room}
-use Rattle.region_lists.proofs.Laws.ListOrder.{final_none, final_on, final_found, final_all}
-use Rattle.table_files.specs.Admission.{table_of}
-use mathlib.Core.Path.{sym, ap, ◌∙◌}
+use Rattle.std.proofs.lemmas.Iterator.{first_from_Range}
+use Rattle.region_lists.proofs.Laws.ListOrder.{none_are_final, first_is_final}
+use Rattle.std.proofs.Common.{None, Some}
+use Prim.Native.Nat.{ℕ}
+use borrow.Author.Rules.{rules}
+use borrow.Author.Tests.{tests}
+use mathlib.Core.Bool.{true, false}
+use mathlib.Core.Path.{◌≡◌}
 use native.Mathlib.Omega.{arith}
 use Rattle.region_lists.proofs.list_order.first_final.Goals as goal
+use Rattle.automata.specs.Automaton.{final}
+use Rattle.listed_rows.specs.Listed.{listed_row}
+use Rattle.table_files.specs.Admission.{table_of}
 
-pub loop-i-init : goal.loop-i-init
-loop-i-init c =
-    final_none _ _ _ _
+pub overflow_add-result : goal.overflow_add-result
+overflow_add-result c =
+    let (_, inside, _, _) = first_from_Range (record { start = 0; end = c.args.count }) _ _ (Some c.in-Some.i) (λ k. Unit {0}) (λ k. Unit {0}) c.in-Some.ensures.ran (λ x q k. tt) (λ x q k. (search rules, tt)) in omega arith
 
-pub location_at-requires-clause-n_bound : goal.location_at-requires-clause-n_bound
-location_at-requires-clause-n_bound c =
-    c.requires.listed.few.few
+pub overflow_cast-result : goal.overflow_cast-result
+overflow_cast-result c =
+    let (_, inside, _, _) = first_from_Range (record { start = 0; end = c.args.count }) _ _ (Some c.in-Some.i) (λ k. Unit {0}) (λ k. Unit {0}) c.in-Some.ensures.ran (λ x q k. tt) (λ x q k. (search rules, tt)) in omega (arith, c.requires.listed.short)
 
-pub location_at-requires-clause-has_row : goal.location_at-requires-clause-has_row
-location_at-requires-clause-has_row c =
-    row_room _ _ _ _ c.requires.listed.room (omega arith)
+pub returns-in-Some : goal.returns-in-Some
+returns-in-Some c =
+    let ends = λ (k : ℕ). final (table_of c.args.table.now) (listed_row c.args.head.clocks.count c.args.list.now k).location in
+    let (_, inside, here, before) = first_from_Range (record { start = 0; end = c.args.count }) _ _ (Some c.in-Some.i) (λ k. ends k ≡ true) (λ k. ends k ≡ false) c.in-Some.ensures.ran (λ x q k. search (rules, tests)) (λ x q k. search (rules, tests)) in
+    first_is_final c.args.head.clocks.count c.args.list.now c.args.count _ _ inside here before
 
-pub is_final-requires-clause-describes : goal.is_final-requires-clause-describes
-is_final-requires-clause-describes c =
-    c.requires.describes
-
-pub returns-then-is_final : goal.returns-then-is_final
-returns-then-is_final c =
-    let T = table_of c.args.table.now in final_found c.args.head.clocks.count c.args.list.now c.args.count T _ c.loop-i.invariant c.loop-i-test.true (ap (final T) (sym c.location_at.ensures) ∙ sym c.is_final.ensures ∙ c.if-is_final.true)
-
-pub loop-i-preserved : goal.loop-i-preserved
-loop-i-preserved c =
-    let T = table_of c.args.table.now in final_on c.args.head.clocks.count c.args.list.now c.args.count T _ c.loop-i.invariant c.loop-i-test.true (ap (final T) (sym c.location_at.ensures) ∙ sym c.is_final.ensures ∙ c.if-is_final.false)
-
-pub returns : goal.returns
-returns c =
-    final_all _ _ _ _ _ c.loop-i.invariant c.loop-i-test.false
+pub returns-in-None : goal.returns-in-None
+returns-in-None c =
+    let ends = λ (k : ℕ). final (table_of c.args.table.now) (listed_row c.args.head.clocks.count c.args.list.now k).location in
+    none_are_final c.args.head.clocks.count c.args.list.now c.args.count _ (first_from_Range (record { start = 0; end = c.args.count }) _ _ None (λ k. ends k ≡ true) (λ k. ends k ≡ false) c.in-None.ensures.ran (λ x q k. search (rules, tests)) (λ x q k. search (rules, tests)))

@@ -1,4 +1,4 @@
-use Prim.Native.Nat.{ℕ, ◌+◌, ◌*◌}
+use Prim.Native.Nat.{ℕ, ◌*◌}
 use Rattle.region_lists.proofs.Laws.ListRecords.{few_bytes}
 use mathlib.Core.Path.{ap}
 use native.Mathlib.Omega.{arith}
@@ -13,7 +13,3 @@ pub overflow_add-result : goal.overflow_add-result
 overflow_add-result c =
     let few = few_bytes c.args.count c.args.n c.requires.0 c.requires.1 in
     let m = ap (λ (w : ℕ). c.args.count * w) c.row_width.ensures in omega arith
-
-pub returns : goal.returns
-returns c =
-    ap (λ (w : ℕ). 4 + c.args.count * w) c.row_width.ensures

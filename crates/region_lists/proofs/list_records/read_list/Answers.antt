@@ -7,10 +7,6 @@ pub returns-then-header-eq0-clause-told : goal.returns-then-header-eq0-clause-to
 returns-then-header-eq0-clause-told c =
     (head_missing (table_of c.args.table.now) c.args.list.now c.record-header.result.now c.record-header.ensures c.if-header-eq0.true).0
 
-pub returns-then-header-eq0-clause-counted : goal.returns-then-header-eq0-clause-counted
-returns-then-header-eq0-clause-counted c =
-    (head_missing (table_of c.args.table.now) c.args.list.now c.record-header.result.now c.record-header.ensures c.if-header-eq0.true).1
-
 pub two_bytes-count-requires : goal.two_bytes-count-requires
 two_bytes-count-requires c =
     let e = head_whole (table_of c.args.table.now) c.args.list.now c.record-header.result.now c.record-header.ensures c.if-header-eq0.false in omega arith
@@ -19,25 +15,13 @@ pub returns-then-count-gt4096-clause-told : goal.returns-then-count-gt4096-claus
 returns-then-count-gt4096-clause-told c =
     (too_many (table_of c.args.table.now) c.args.list.now c.record-header.result.now c.record-header.ensures c.if-header-eq0.false _ c.two_bytes-count.ensures c.if-count-gt4096.true).0
 
-pub returns-then-count-gt4096-clause-counted : goal.returns-then-count-gt4096-clause-counted
-returns-then-count-gt4096-clause-counted c =
-    (too_many (table_of c.args.table.now) c.args.list.now c.record-header.result.now c.record-header.ensures c.if-header-eq0.false _ c.two_bytes-count.ensures c.if-count-gt4096.true).1
-
 pub returns-then-rows-ne0-clause-told : goal.returns-then-rows-ne0-clause-told
 returns-then-rows-ne0-clause-told c =
     (row_refused (table_of c.args.table.now) c.args.list.now c.record-header.result.now c.record-header.ensures c.if-header-eq0.false _ c.two_bytes-count.ensures c.if-count-gt4096.false _ _ c.read_rows-rows.ensures c.read_rows-rows.result.count c.if-rows-ne0.true).0
 
-pub returns-then-rows-ne0-clause-counted : goal.returns-then-rows-ne0-clause-counted
-returns-then-rows-ne0-clause-counted c =
-    (row_refused (table_of c.args.table.now) c.args.list.now c.record-header.result.now c.record-header.ensures c.if-header-eq0.false _ c.two_bytes-count.ensures c.if-count-gt4096.false _ _ c.read_rows-rows.ensures _ c.if-rows-ne0.true).1
-
 pub returns-then-end-list-clause-told : goal.returns-then-end-list-clause-told
 returns-then-end-list-clause-told c =
     (bytes_follow (table_of c.args.table.now) c.args.list.now c.record-header.result.now c.record-header.ensures c.if-header-eq0.false _ c.two_bytes-count.ensures c.if-count-gt4096.false _ _ c.read_rows-rows.ensures c.if-rows-ne0.false _ c.requires.count (rw (← c.list_end-end.ensures) c.if-end-list.true)).0
-
-pub returns-then-end-list-clause-counted : goal.returns-then-end-list-clause-counted
-returns-then-end-list-clause-counted c =
-    (bytes_follow (table_of c.args.table.now) c.args.list.now c.record-header.result.now c.record-header.ensures c.if-header-eq0.false _ c.two_bytes-count.ensures c.if-count-gt4096.false _ _ c.read_rows-rows.ensures c.if-rows-ne0.false _ c.requires.count (rw (← c.list_end-end.ensures) c.if-end-list.true)).1
 
 pub returns-clause-told : goal.returns-clause-told
 returns-clause-told c =

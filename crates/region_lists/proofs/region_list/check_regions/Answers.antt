@@ -1,4 +1,4 @@
-use Rattle.region_lists.proofs.Laws.RegionCall.{opened_refused, opened_good, rows_answer, read_refused, read_told, promises}
+use Rattle.region_lists.proofs.Laws.RegionCall.{opened_refused, opened_good, rows_answer, read_refused, promises}
 use Rattle.table_files.proofs.Laws.Bytes.{are_bytes}
 use native.Mathlib.Omega.{arith}
 use Rattle.region_lists.proofs.region_list.check_regions.Goals as goal
@@ -10,10 +10,6 @@ returns-then-opened-ne0-clause-answer c =
 pub returns-then-opened-ne0-clause-closed : goal.returns-then-opened-ne0-clause-closed
 returns-then-opened-ne0-clause-closed c =
     (promises c.args.table.now c.args.list.now _ (are_bytes c.args.list.now (λ z l. omega (arith, c.type_inv.list z))) (opened_refused c.args.table.now c.open-opened.result c.open-opened.ensures c.args.list.now c.if-opened-ne0.true)).1.0
-
-pub returns-then-opened-ne0-clause-empty : goal.returns-then-opened-ne0-clause-empty
-returns-then-opened-ne0-clause-empty c =
-    (promises c.args.table.now c.args.list.now _ (are_bytes c.args.list.now (λ z l. omega (arith, c.type_inv.list z))) (opened_refused c.args.table.now c.open-opened.result c.open-opened.ensures c.args.list.now c.if-opened-ne0.true)).1.1.0
 
 pub returns-then-opened-ne0-clause-complete : goal.returns-then-opened-ne0-clause-complete
 returns-then-opened-ne0-clause-complete c =
@@ -31,10 +27,6 @@ pub returns-then-read-ne0-clause-closed : goal.returns-then-read-ne0-clause-clos
 returns-then-read-ne0-clause-closed c =
     (promises c.args.table.now c.args.list.now _ (are_bytes c.args.list.now (λ z l. omega (arith, c.type_inv.list z))) (read_refused c.args.table.now c.args.list.now c.open-opened.result.head (opened_good c.args.table.now c.open-opened.result c.open-opened.ensures c.if-opened-ne0.false) c.read_list-read.result.number c.read_list-read.result.place c.read_list-read.ensures.told c.if-read-ne0.true)).1.0
 
-pub returns-then-read-ne0-clause-empty : goal.returns-then-read-ne0-clause-empty
-returns-then-read-ne0-clause-empty c =
-    (promises c.args.table.now c.args.list.now _ (are_bytes c.args.list.now (λ z l. omega (arith, c.type_inv.list z))) (read_refused c.args.table.now c.args.list.now c.open-opened.result.head (opened_good c.args.table.now c.open-opened.result c.open-opened.ensures c.if-opened-ne0.false) c.read_list-read.result.number c.read_list-read.result.place c.read_list-read.ensures.told c.if-read-ne0.true)).1.1.0
-
 pub returns-then-read-ne0-clause-complete : goal.returns-then-read-ne0-clause-complete
 returns-then-read-ne0-clause-complete c =
     (promises c.args.table.now c.args.list.now _ (are_bytes c.args.list.now (λ z l. omega (arith, c.type_inv.list z))) (read_refused c.args.table.now c.args.list.now c.open-opened.result.head (opened_good c.args.table.now c.open-opened.result c.open-opened.ensures c.if-opened-ne0.false) c.read_list-read.result.number c.read_list-read.result.place c.read_list-read.ensures.told c.if-read-ne0.true)).1.1.1
@@ -42,14 +34,6 @@ returns-then-read-ne0-clause-complete c =
 pub check_rows-requires-clause-describes : goal.check_rows-requires-clause-describes
 check_rows-requires-clause-describes c =
     opened_good c.args.table.now c.open-opened.result c.open-opened.ensures c.if-opened-ne0.false
-
-pub check_rows-requires-clause-told : goal.check_rows-requires-clause-told
-check_rows-requires-clause-told c =
-    read_told c.args.table.now c.args.list.now c.open-opened.result.head (opened_good c.args.table.now c.open-opened.result c.open-opened.ensures c.if-opened-ne0.false) c.read_list-read.result.number c.read_list-read.result.place c.read_list-read.ensures.told c.if-read-ne0.false
-
-pub check_rows-requires-clause-list_len : goal.check_rows-requires-clause-list_len
-check_rows-requires-clause-list_len c =
-    c.read_list-read.ensures.counted c.if-read-ne0.false
 
 pub returns-clause-answer : goal.returns-clause-answer
 returns-clause-answer c =

@@ -1,5 +1,4 @@
 use Rattle.region_lists.proofs.Laws.RegionCheck.{list_listed, list_located, rows_ascend, refused_14, refused_15, refused_16, refused_17, all_pass}
-use native.Mathlib.Omega.{arith}
 use Rattle.region_lists.proofs.region_list.check_rows.Goals as goal
 
 pub first_unordered-unordered-requires : goal.first_unordered-unordered-requires
@@ -34,10 +33,6 @@ pub returns-then-not-is_listed : goal.returns-then-not-is_listed
 returns-then-not-is_listed c =
     refused_16 c.args.table.now c.args.list.now c.args.head c.args.count c.requires.describes c.requires.told c.requires.list_len c.first_unordered-unordered.result c.first_unordered-unordered.ensures c.if-unordered-ne0.false c.first_final-ending.result c.first_final-ending.ensures c.if-ending-ne0.false c.initial_row-initial.result c.initial_row-initial.ensures c.is_listed.result c.is_listed.ensures c.if-not-is_listed.true
 
-pub first_open-first-requires-clause-describes : goal.first_open-first-requires-clause-describes
-first_open-first-requires-clause-describes c =
-    c.requires.describes
-
 pub first_open-first-requires-clause-listed : goal.first_open-first-requires-clause-listed
 first_open-first-requires-clause-listed c =
     list_listed c.args.table.now c.args.list.now c.args.head c.args.count c.requires.describes c.requires.told c.requires.list_len
@@ -45,14 +40,6 @@ first_open-first-requires-clause-listed c =
 pub first_open-first-requires-clause-ascends : goal.first_open-first-requires-clause-ascends
 first_open-first-requires-clause-ascends c =
     rows_ascend c.args.table.now c.args.list.now c.args.head c.args.count c.requires.describes c.requires.told c.requires.list_len c.first_unordered-unordered.result c.first_unordered-unordered.ensures c.if-unordered-ne0.false
-
-pub overflow_add-result : goal.overflow_add-result
-overflow_add-result c =
-    let l = list_listed c.args.table.now c.args.list.now c.args.head c.args.count c.requires.describes c.requires.told c.requires.list_len in omega (arith, l.short)
-
-pub overflow_cast-result : goal.overflow_cast-result
-overflow_cast-result c =
-    let l = list_listed c.args.table.now c.args.list.now c.args.head c.args.count c.requires.describes c.requires.told c.requires.list_len in omega (arith, l.short)
 
 pub returns-then-first-rows : goal.returns-then-first-rows
 returns-then-first-rows c =

@@ -1,12 +1,6 @@
-use Prim.Native.Nat.{◌-◌}
 use Rattle.regions.specs.Values.{bounds_of, edge_of}
 use Rattle.selection.proofs.Laws.Grouping.{Grouping}
-use lib.ListN.{length}
-use mathlib.Core.Path.{◌≡◌}
 use Rattle.selection.proofs.grouping.lodge_all.Given as goal
 
 abbrev pub invariant-loop-i : goal.invariant-loop-i
-invariant-loop-i l = (length l.taken ≡ 4096) × (length l.slots ≡ 1024) × Grouping (bounds_of l.clocks) (edge_of l.clocks.count l.e) l.clocks.count l.list l.start l.end l.initial.taken l.initial.slots l.i l.taken l.slots
-
-abbrev pub decreases-loop-i : goal.decreases-loop-i
-decreases-loop-i l = l.end - l.i
+invariant-loop-i l = Grouping (bounds_of l.clocks) (edge_of l.clocks.count l.e) l.clocks.count l.list l.start l.end l.initial.taken l.initial.slots l.i l.taken l.slots

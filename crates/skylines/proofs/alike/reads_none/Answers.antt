@@ -1,20 +1,16 @@
+use Rattle.automata.proofs.Laws.Chains.{every_from_all}
 use Rattle.regions.proofs.Laws.Values.{length_under}
-use Rattle.regions.specs.Values.{edge_of}
-use Rattle.skylines.proofs.Laws.Alike.{reads_begin, reads_on, reads_all, constant_at}
+use Rattle.skylines.proofs.Laws.Alike.{constant_update, reads_all}
 use borrow.Author.Rules.{rules}
-use lib.ListN.{length}
-use mathlib.Core.Path.{◌≡◌, sym, ◌∙◌}
-use native.Mathlib.Omega.{arith}
+use borrow.Author.Tests.{tests}
+use Rattle.automata.specs.Checks.{every}
+use Rattle.std.specs.Slice.Iter.{iter_rest}
+use lib.ListN.{length, take}
+use mathlib.Core.Path.{◌≡◌, sym, ap, ◌∙◌}
 use Rattle.skylines.proofs.alike.reads_none.Goals as goal
-
-pub loop-z-init : goal.loop-z-init
-loop-z-init c =
-    reads_begin _ _
-
-pub loop-z-preserved : goal.loop-z-preserved
-loop-z-preserved c =
-    let four : length c.args.e.updates ≡ 4 = search (rules, length_under) in reads_on c.args.clocks.count (edge_of c.args.clocks.count c.args.e) _ c.loop-z.invariant c.loop-z-test.true (constant_at c.args.clocks.count c.args.e _ c.requires four c.loop-z-test.true ∙ sym c.is_constant.ensures ∙ c.if-not-is_constant.false)
 
 pub returns : goal.returns
 returns c =
-    λ f. reads_all _ _ _ c.loop-z.invariant (omega (arith, c.loop-z-test.false))
+    λ h. let four : length c.args.e.updates ≡ 4 = search (rules, length_under) in
+    let here : iter_rest c.iter.result ≡ take c.args.clocks.count c.args.e.updates = search rules in
+    reads_all c.args.clocks.count c.args.e c.requires four (ap (every constant_update) (sym here) ∙ sym (every_from_all constant_update _ _ _ c.all.ensures.ran (λ x b q k. search (rules, tests))) ∙ h)

@@ -1,25 +1,15 @@
-use Rattle.regions.proofs.Laws.Values.{length_under}
-use Rattle.skylines.proofs.Laws.SideTests.{none_chosen, not_chosen, one_chosen, all_chosen}
+use Rattle.automata.proofs.Laws.Chains.{allb_from_all}
+use Rattle.regions.specs.Values.{edge_of}
+use Rattle.skylines.proofs.Laws.SideTests.{choice_by}
+use Rattle.skylines.specs.Sides.{may_choose}
 use borrow.Author.Rules.{rules}
-use lib.ListN.{length}
-use mathlib.Core.Path.{◌≡◌}
+use borrow.Author.Tests.{tests}
 use Rattle.skylines.proofs.sides.is_choice.Goals as goal
 
-pub loop-z-init : goal.loop-z-init
-loop-z-init c =
-    none_chosen _ _ _
+pub returns-then-all : goal.returns-then-all
+returns-then-all c =
+    (choice_by _ _ _ _ (allb_from_all (may_choose (edge_of c.args.clocks.count c.args.e) c.args.k) _ _ _ c.all.ensures.ran (λ x b q k. search (rules, tests)))).0 c.if-all.true
 
-pub returns-then-not-may_choose : goal.returns-then-not-may_choose
-returns-then-not-may_choose c =
-    let four : length c.args.e.updates ≡ 4 = search (rules, length_under) in
-    not_chosen c.args.clocks.count c.args.e c.args.k c.requires four _ _ c.loop-z.invariant c.loop-z-test.true _ c.may_choose.ensures c.if-not-may_choose.true
-
-pub loop-z-preserved : goal.loop-z-preserved
-loop-z-preserved c =
-    let four : length c.args.e.updates ≡ 4 = search (rules, length_under) in
-    one_chosen c.args.clocks.count c.args.e c.args.k c.requires four _ _ c.loop-z.invariant c.loop-z-test.true _ c.may_choose.ensures c.if-not-may_choose.false
-
-pub returns : goal.returns
-returns c =
-    let four : length c.args.e.updates ≡ 4 = search (rules, length_under) in
-    all_chosen c.args.clocks.count c.args.e c.args.k c.requires four _ _ c.loop-z.invariant c.loop-z-test.false
+pub returns-else-all : goal.returns-else-all
+returns-else-all c =
+    (choice_by _ _ _ _ (allb_from_all (may_choose (edge_of c.args.clocks.count c.args.e) c.args.k) _ _ _ c.all.ensures.ran (λ x b q k. search (rules, tests)))).1 c.if-all.false

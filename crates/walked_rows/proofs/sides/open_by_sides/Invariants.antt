@@ -1,13 +1,7 @@
-use Prim.Native.Nat.{◌-◌, ◌≤◌}
 use Rattle.regions.specs.Values.{bounds_of, edge_of}
 use Rattle.walked_rows.proofs.Laws.Sides.{SidesInside}
 use Rattle.walked_rows.specs.Open.{FirstOpen}
-use lib.ListN.{length}
-use mathlib.Core.Path.{◌≡◌}
 use Rattle.walked_rows.proofs.sides.open_by_sides.Given as goal
 
 abbrev pub invariant-loop-k : goal.invariant-loop-k
-invariant-loop-k l = (l.k ≤ 16) × ((length l.taken ≡ 4096) × FirstOpen (SidesInside (bounds_of l.clocks) (edge_of l.clocks.count l.e) l.clocks.count l.list l.count l.start l.end l.k) l.start l.end l.end)
-
-abbrev pub decreases-loop-k : goal.decreases-loop-k
-decreases-loop-k l = 16 - l.k
+invariant-loop-k l = FirstOpen (SidesInside (bounds_of l.clocks) (edge_of l.clocks.count l.e) l.clocks.count l.list l.count l.start l.end l.k) l.start l.end l.end

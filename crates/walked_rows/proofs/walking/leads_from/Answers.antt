@@ -9,8 +9,8 @@ use Rattle.walked_rows.proofs.walking.leads_from.Goals as goal
 
 pub leads_inside-requires-clause-row : goal.leads_inside-requires-clause-row
 leads_inside-requires-clause-row c =
-    let e = edge_of c.args.clocks.count c.args.e in let cs = bounds_of c.args.clocks in let rows = listed_rows c.args.clocks.count c.args.list.now c.args.count in rw (listed_again c.args.clocks.count c.args.list.now _ _ c.row_at-row.ensures) (c.requires.suited.listed.are_rows _ c.requires.offered.to)
+    rw (listed_again c.args.clocks.count c.args.list.now _ _ c.row_at-row.ensures) (c.requires.suited.listed.are_rows _ c.requires.offered.to)
 
 pub returns : goal.returns
 returns c =
-    let e = edge_of c.args.clocks.count c.args.e in let cs = bounds_of c.args.clocks in let rows = listed_rows c.args.clocks.count c.args.list.now c.args.count in c.leads_inside.ensures ∙ ap (λ (r : Row). every (has rows) (edge_rows cs e r)) (listed_again c.args.clocks.count c.args.list.now _ _ c.row_at-row.ensures)
+    c.leads_inside.ensures ∙ ap (λ (r : Row). every (has (listed_rows c.args.clocks.count c.args.list.now c.args.count)) (edge_rows (bounds_of c.args.clocks) (edge_of c.args.clocks.count c.args.e) r)) (listed_again _ _ _ _ c.row_at-row.ensures)

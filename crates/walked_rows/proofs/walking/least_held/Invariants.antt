@@ -1,15 +1,10 @@
-use Prim.Native.Nat.{suc, ◌≤◌}
-use Prim.Native.Nat.{◌-◌}
+use Prim.Native.Nat.{suc}
 use Rattle.automata.specs.Clocks.{at}
 use Rattle.automata.specs.Successors.{edge_rows}
 use Rattle.regions.specs.Values.{bounds_of, edge_of}
-use Rattle.walked_rows.specs.Open.{Inside}
-use Rattle.walked_rows.specs.Open.{LeastOf}
+use Rattle.walked_rows.specs.Open.{Inside, LeastOf}
 use mathlib.Core.Path.{◌≡◌}
 use Rattle.walked_rows.proofs.walking.least_held.Given as goal
 
-abbrev pub invariant-loop-k : goal.invariant-loop-k
-invariant-loop-k l = (l.k ≤ 1024) × LeastOf (Inside (edge_rows (bounds_of l.clocks) (edge_of l.clocks.count l.e)) l.clocks.count l.list l.count) (λ k j. at l.slots k ≡ suc j) l.k l.end l.least.row
-
-abbrev pub decreases-loop-k : goal.decreases-loop-k
-decreases-loop-k l = 1024 - l.k
+abbrev pub invariant-loop-holder : goal.invariant-loop-holder
+invariant-loop-holder l = LeastOf (Inside (edge_rows (bounds_of l.clocks) (edge_of l.clocks.count l.e)) l.clocks.count l.list l.count) (λ k j. at l.slots k ≡ suc j) l.holder-index l.end l.least.row

@@ -1,31 +1,18 @@
-use Prim.Native.Nat.{◌<◌}
-use Rattle.rankings.specs.Ranking.{rows_ranked}
+use Rattle.way_counts.proofs.Laws.Loops.{tried_all, ranking_tried}
+use Rattle.std.proofs.lemmas.Iterator.{YieldsList-from_range}
+use Rattle.std.proofs.lemmas.Iterator.Consumers.{count_from_yields_List, YieldsList-from_filter}
 use Rattle.regions.specs.Values.{row_of}
-use Rattle.way_counts.proofs.Laws.Loops.{allowed_more, allowed_all}
-use lib.ListN.{length}
-use mathlib.Core.Bool.{true, false}
-use mathlib.Core.Path.{sym, ◌∙◌, refl}
+use Rattle.rankings.specs.Ranking.{rows_ranked}
+use Rattle.edge_walk.specs.Choice.{allowsb}
+use borrow.Author.Rules.{rules}
+use borrow.Author.Tests.{tests}
+use lib.ListN.{get_or}
 use native.Mathlib.Omega.{arith}
+use mathlib.Core.Path.{◌∙◌}
+use Prim.Native.Nat.{ℕ}
 use Rattle.way_counts.proofs.patterns.allowed_rankings.Goals as goal
-use Rattle.way_counts.proofs.patterns.allowed_rankings.Goals.{then-are_placed, else-are_placed}
-
-pub loop-j-init : goal.loop-j-init
-loop-j-init c =
-    (omega arith, omega arith, refl)
-
-pub overflow_add-total : goal.overflow_add-total
-overflow_add-total c =
-    omega arith
-
-pub loop-j-preserved : goal.loop-j-preserved
-loop-j-preserved c =
-    let more = allowed_more c.args.search (rows_ranked c.args.search.clocks c.args.part) c.loop-j.j c.loop-j.total c.if-are_placed.total c.ranked.result in
-    let k : c.loop-j.j < length (rows_ranked c.args.search.clocks c.args.part) = omega (arith, c.loop-j-test.true, c.rankings_of-all.ensures) in
-    elim c.if-are_placed.branch [
-      | then-are_placed w ↦ (omega arith, omega arith, more true _ k c.loop-j.invariant.2 c.ranked.ensures.row (sym w.if-are_placed.true ∙ c.are_placed.ensures) (omega (arith, w.total-is)))
-      | else-are_placed w ↦ (omega arith, omega arith, more false _ k c.loop-j.invariant.2 c.ranked.ensures.row (sym w.if-are_placed.false ∙ c.are_placed.ensures) (omega (arith, w.total-is)))
-    ]
 
 pub returns : goal.returns
 returns c =
-    allowed_all c.args.search c.args.part.location (row_of c.args.search.clocks.count c.args.part).intervals c.loop-j.j c.loop-j.total c.loop-j.invariant.2 (omega (arith, c.rankings_of-all.ensures))
+    count_from_yields_List c.filter.result _ c.count.ensures.ran (YieldsList-from_filter _ (λ (j : ℕ). allowsb c.args.search (get_or (rows_ranked c.args.search.clocks c.args.part) j (row_of c.args.search.clocks.count c.args.part))) (YieldsList-from_range 0 c.rankings_of.result c.rankings_of.result c.filter.ensures.source (omega arith)) c.filter.ensures.closure (λ x b q k. search (rules, tests, ranking_tried)))
+    ∙ tried_all c.args.search _ _ _ _ c.rankings_of.ensures

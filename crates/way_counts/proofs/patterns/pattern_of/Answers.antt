@@ -4,25 +4,16 @@ use native.Mathlib.Omega.{arith}
 use Rattle.way_counts.proofs.patterns.pattern_of.Goals as goal
 
 pub loop-z-init : goal.loop-z-init
-loop-z-init c =
-    (omega arith, chosen_none _ _ _)
+loop-z-init c = chosen_none _ _ _
 
 pub overflow_mul-times : goal.overflow_mul-times
 overflow_mul-times c =
-    let low = times_fit _ _ _ c.requires.n_bound c.requires.few_of_each _ _ _ _ _ c.loop-z.invariant.1 c.loop-z-test.true in omega arith
+    let low = times_fit _ _ _ c.requires.n_bound c.requires.few_of_each _ _ _ _ _ c.loop-z.invariant c.loop-z-test.true (c.digits_of-digits.ensures.digits c.loop-z.z (omega (arith, c.requires.n_bound))) in rw c.from-times.ensures (omega arith)
 
 pub loop-z-preserved : goal.loop-z-preserved
 loop-z-preserved c =
-    (omega arith, chosen_on _ _ _ c.requires.n_bound c.requires.few_of_each _ _ _ _ _ c.loop-z.invariant.1 c.loop-z-test.true _ refl)
-
-pub returns-clause-times : goal.returns-clause-times
-returns-clause-times c =
-    (chosen_all _ _ _ c.requires.n_bound c.requires.few_of_each _ _ _ _ _ c.loop-z.invariant.1 (omega arith)).0
-
-pub returns-clause-location : goal.returns-clause-location
-returns-clause-location c =
-    (chosen_all _ _ _ c.requires.n_bound c.requires.few_of_each _ _ _ _ _ c.loop-z.invariant.1 (omega arith)).1.0
+    rw c.from-times.ensures (chosen_on _ _ _ c.requires.n_bound c.requires.few_of_each _ _ _ _ _ c.loop-z.invariant c.loop-z-test.true (c.digits_of-digits.ensures.digits c.loop-z.z (omega (arith, c.requires.n_bound))) _ refl)
 
 pub returns-clause-intervals : goal.returns-clause-intervals
 returns-clause-intervals c =
-    (chosen_all _ _ _ c.requires.n_bound c.requires.few_of_each _ _ _ _ _ c.loop-z.invariant.1 (omega arith)).1.1
+    (chosen_all _ _ _ c.requires.n_bound c.requires.few_of_each _ _ _ _ c.loop-z.invariant (omega arith)).1.1

@@ -1,31 +1,22 @@
-use Rattle.way_counts.proofs.Laws.Loops.{summed_none, few_of_each, patterns_low, pattern_low, summed_more, nowhere, way_summed}
+use Rattle.std.proofs.lemmas.Iterator.{YieldsList-from_range, YieldsList-from_map}
+use Rattle.std.proofs.lemmas.Iterator.Consumers.{sum_from_yields_List, fits_from_yields_list}
+use Rattle.way_counts.proofs.Laws.Loops.{few_of_each, sum_fits, way_summed}
+use Rattle.way_counts.specs.Patterns.{FewOfEach, pattern_rows}
+use Rattle.std.proofs.iter.Serving.{serving}
 use borrow.Author.Rules.{rules}
-use borrow.Author.Tests.{not-true, not-false}
 use native.Mathlib.Omega.{arith}
+use mathlib.Core.Path.{◌∙◌}
 use Rattle.way_counts.proofs.way_count.way_count.Goals as goal
 
-pub returns-then-not-way : goal.returns-then-not-way
-returns-then-not-way c =
-    nowhere _ (not-true _ c.if-not-way.true)
+pub sum-requires-clause-can : goal.sum-requires-clause-can
+sum-requires-clause-can c =
+    let few : FewOfEach c.args.way.search.clocks.count c.kinds_of-kinds.result = few_of_each _ c.requires.ready _ c.kinds_of-kinds.ensures c.requires.by_index in
+    grind serving
 
-pub loop-number-init : goal.loop-number-init
-loop-number-init c =
-    (omega arith, summed_none _)
-
-pub overflow_add-total : goal.overflow_add-total
-overflow_add-total c =
-    let low = pattern_low c.args.way.search c.requires.ready (search rules) _ c.kinds_of-kinds.ensures (few_of_each _ c.requires.ready _ c.kinds_of-kinds.ensures c.requires.by_index) c.args.way.target c.loop-number.number in
-    omega (arith, c.rows_of_pattern-total.ensures, c.pattern_count-patterns.ensures, patterns_low c.args.way.search.clocks.count c.requires.ready.few.few, c.loop-number.invariant.1.low)
-
-pub loop-number-preserved : goal.loop-number-preserved
-loop-number-preserved c =
-    let low = pattern_low c.args.way.search c.requires.ready (search rules) _ c.kinds_of-kinds.ensures (few_of_each _ c.requires.ready _ c.kinds_of-kinds.ensures c.requires.by_index) c.args.way.target c.loop-number.number in
-    (omega arith, summed_more _ _ _ _ c.loop-number.invariant.1 c.rows_of_pattern-total.ensures (omega (arith, c.rows_of_pattern-total.ensures)))
+pub sum-requires-clause-fits : goal.sum-requires-clause-fits
+sum-requires-clause-fits c =
+    fits_from_yields_list c.map.result _ (YieldsList-from_map _ (pattern_rows c.args.way.search c.args.way.target c.kinds_of-kinds.result) (YieldsList-from_range 0 c.pattern_count.result c.pattern_count.result c.map.ensures.source (omega arith)) c.map.ensures.closure (λ x r q k. search rules)) (sum_fits c.args.way c.requires.ready (search rules) _ c.kinds_of-kinds.ensures (few_of_each _ c.requires.ready _ c.kinds_of-kinds.ensures c.requires.by_index) _ (rw c.from.ensures at c.pattern_count.ensures))
 
 pub returns : goal.returns
 returns c =
-    way_summed _ c.requires.ready (search rules) _ c.kinds_of-kinds.ensures (not-false _ c.if-not-way.false) _ _ c.loop-number.invariant.1 (omega (arith, c.pattern_count-patterns.ensures))
-
-pub rows_of_pattern-total-requires-clause-few_of_each : goal.rows_of_pattern-total-requires-clause-few_of_each
-rows_of_pattern-total-requires-clause-few_of_each c =
-    few_of_each _ c.requires.ready _ c.kinds_of-kinds.ensures c.requires.by_index
+    sum_from_yields_List c.map.result _ c.sum.ensures.ran (YieldsList-from_map _ (pattern_rows c.args.way.search c.args.way.target c.kinds_of-kinds.result) (YieldsList-from_range 0 c.pattern_count.result c.pattern_count.result c.map.ensures.source (omega arith)) c.map.ensures.closure (λ x r q k. search rules)) ∙ way_summed c.args.way c.requires.ready (search rules) _ c.kinds_of-kinds.ensures (few_of_each _ c.requires.ready _ c.kinds_of-kinds.ensures c.requires.by_index) _ (rw c.from.ensures at c.pattern_count.ensures) c.if-not-way.false

@@ -1,25 +1,20 @@
-use Rattle.edge_walk.proofs.Laws.Allowing.{allows_begins, allows_parts, allows_on, allows_free, allows_not, placed_first}
-use mathlib.Core.Path.{sym, ◌∙◌}
-use native.Mathlib.Omega.{arith}
-use Rattle.edge_walk.proofs.choice.Search.allows.Goals.{then-is_by_parts, else-is_by_parts}
+use Rattle.automata.proofs.Laws.Chains.{allb_from_all, someb_from_any}
+use Rattle.edge_walk.proofs.Laws.Allowing.{permitted, by_parts, allows_not, allows_free, placed_first}
+use borrow.Author.Rules.{rules}
+use borrow.Author.Tests.{tests}
+use Prim.Native.Nat.{ℕ}
+use Rattle.regions.specs.Placing.{placed_at}
+use mathlib.Core.Path.{ap, ◌∙◌}
 use Rattle.edge_walk.proofs.choice.Search.allows.Goals as goal
 
-pub loop-z-init : goal.loop-z-init
-loop-z-init c =
-    allows_begins c.args.self.moves.each c.args.self.moves.ranks c.args.self.clocks.count c.args.region.intervals c.args.region.ranks
+pub returns-else-all : goal.returns-else-all
+returns-else-all c =
+    allows_not c.args.self.moves.each c.args.self.moves.ranks c.args.self.clocks.count c.args.region.intervals c.args.region.ranks _ (rw c.from-n.ensures at (allb_from_all (permitted c.args.self.moves.each c.args.self.moves.ranks c.args.self.clocks.count c.args.region.intervals c.args.region.ranks) _ _ _ c.all.ensures.ran (λ z b q k. search (rules, tests)))) c.if-all.false
 
-pub returns-then-not-permits : goal.returns-then-not-permits
-returns-then-not-permits c =
-    sym (sym (placed_first c.args.self.moves.each c.args.self.moves.ranks c.args.self.clocks.count c.args.region.intervals c.args.region.ranks) ∙ allows_not c.args.self.moves.each c.args.self.moves.ranks c.args.self.clocks.count c.args.region.intervals c.args.region.ranks _ c.loop-z-test.true (sym c.permits.ensures ∙ c.if-not-permits.true))
+pub returns-then-not-any : goal.returns-then-not-any
+returns-then-not-any c =
+    allows_free c.args.self.moves.each c.args.self.moves.ranks c.args.self.clocks.count c.args.region.intervals c.args.region.ranks _ _ (rw c.from-n.ensures at (allb_from_all (permitted c.args.self.moves.each c.args.self.moves.ranks c.args.self.clocks.count c.args.region.intervals c.args.region.ranks) _ _ _ c.all.ensures.ran (λ z b q k. search (rules, tests)))) c.if-all.true (rw c.from-n.ensures at (someb_from_any (by_parts c.args.self.moves.each c.args.self.moves.ranks c.args.self.clocks.count c.args.region.intervals c.args.region.ranks) _ _ _ c.any.ensures.ran (λ z b q k. search (rules, tests)))) c.if-not-any.true
 
-pub loop-z-preserved : goal.loop-z-preserved
-loop-z-preserved c =
-    let q = sym c.permits.ensures ∙ c.if-not-permits.false in elim c.if-is_by_parts.branch [ then-is_by_parts w ↦ rw w.by_parts-is (allows_parts c.args.self.moves.each c.args.self.moves.ranks c.args.self.clocks.count c.args.region.intervals c.args.region.ranks _ _ c.loop-z.invariant c.loop-z-test.true q) | else-is_by_parts w ↦ rw w.by_parts-is (allows_on c.args.self.moves.each c.args.self.moves.ranks c.args.self.clocks.count c.args.region.intervals c.args.region.ranks _ _ c.loop-z.invariant c.loop-z-test.true q (sym c.is_by_parts.ensures ∙ w.if-is_by_parts.false)) ]
-
-pub returns-then-not-by_parts : goal.returns-then-not-by_parts
-returns-then-not-by_parts c =
-    sym (sym (placed_first c.args.self.moves.each c.args.self.moves.ranks c.args.self.clocks.count c.args.region.intervals c.args.region.ranks) ∙ allows_free c.args.self.moves.each c.args.self.moves.ranks c.args.self.clocks.count c.args.region.intervals c.args.region.ranks _ (rw c.if-not-by_parts.true at c.loop-z.invariant) (omega (arith, c.loop-z-test.false)))
-
-pub returns : goal.returns
-returns c =
-    c.are_placed.ensures ∙ placed_first c.args.self.moves.each c.args.self.moves.ranks c.args.self.clocks.count c.args.region.intervals c.args.region.ranks
+pub returns-else-not-any : goal.returns-else-not-any
+returns-else-not-any c =
+    c.are_placed.ensures ∙ ap (λ (n : ℕ). placed_at c.args.self.moves.each c.args.self.moves.ranks n c.args.region.intervals c.args.region.ranks) c.from-n.ensures ∙ placed_first _ _ _ _ _

@@ -7,20 +7,20 @@ use Rattle.edge_walk.proofs.choice.Search.step.Goals as goal
 
 pub returns-then-done : goal.returns-then-done
 returns-then-done c =
-    step_back c.args.self c.requires.ready (search rules) c.args.«at» c.requires.standing c.requires.depth_nonzero _ (λ x q h. (c.if-done.true, h)) (λ x d. d.1) _ c.step_back.ensures
+    step_back c.args.self c.requires.ready (search rules) c.args.«at» c.requires.standing c.requires.depth_nonzero _ (λ x q h. (c.if-done.true, h)) (λ x d. d.1) _ (rw c.from-n.ensures at c.step_back.ensures)
 
 pub returns-then-at-gt32767 : goal.returns-then-at-gt32767
 returns-then-at-gt32767 c =
-    step_none c.args.self c.requires.ready (search rules) c.args.«at» c.requires.standing c.requires.depth_nonzero _ (λ x d. never (sym c.if-done.false ∙ d.0)) (c.requires.depth_bound c.if-done.false) c.if-at-gt32767.true _ c.step_back-then-at-gt32767.ensures
+    step_none c.args.self c.requires.ready (search rules) c.args.«at» c.requires.standing c.requires.depth_nonzero _ (λ x d. never (sym c.if-done.false ∙ d.0)) (c.requires.depth_bound c.if-done.false) c.if-at-gt32767.true _ (rw c.from-n.ensures at c.step_back-then-at-gt32767.ensures)
 
 pub returns-then-choices-choice : goal.returns-then-choices-choice
 returns-then-choices-choice c =
-    step_last c.args.self c.requires.ready (search rules) c.args.«at» c.requires.standing c.requires.depth_nonzero _ (λ x d. never (sym c.if-done.false ∙ d.0)) (c.requires.depth_bound c.if-done.false) _ _ c.choices-choices.ensures.last c.choices-choices.ensures.least c.if-choices-choice.true _ c.step_back-then-choices-choice.ensures
+    step_last c.args.self c.requires.ready (search rules) c.args.«at» c.requires.standing c.requires.depth_nonzero _ (λ x d. never (sym c.if-done.false ∙ d.0)) (c.requires.depth_bound c.if-done.false) _ _ c.choices-choices.ensures.last c.choices-choices.ensures.least c.if-choices-choice.true _ (rw c.from-n.ensures at c.step_back-then-choices-choice.ensures)
 
 pub returns-then-is_stuck : goal.returns-then-is_stuck
 returns-then-is_stuck c =
-    step_past c.args.self c.requires.ready (search rules) c.args.«at» c.requires.standing c.requires.depth_nonzero _ (λ x d. never (sym c.if-done.false ∙ d.0)) (c.requires.depth_bound c.if-done.false) _ _ c.choices-choices.ensures.last c.choices-choices.ensures.least (omega (arith, c.if-choices-choice.false)) _ c.with_number-further.ensures (sym c.is_stuck.ensures ∙ c.if-is_stuck.true)
+    rw c.from.ensures (step_past c.args.self c.requires.ready (search rules) c.args.«at» c.requires.standing c.requires.depth_nonzero _ (λ x d. never (sym c.if-done.false ∙ d.0)) (c.requires.depth_bound c.if-done.false) _ _ c.choices-choices.ensures.last c.choices-choices.ensures.least (omega (arith, c.if-choices-choice.false)) _ (rw c.from-n.ensures at c.with_number-further.ensures) (sym c.is_stuck.ensures ∙ c.if-is_stuck.true))
 
 pub returns : goal.returns
 returns c =
-    step_on c.args.self c.requires.ready (search rules) c.args.«at» c.requires.standing c.requires.depth_nonzero _ (λ x d. never (sym c.if-done.false ∙ d.0)) (c.requires.depth_bound c.if-done.false) _ _ c.choices-choices.ensures.last c.choices-choices.ensures.least (omega (arith, c.if-choices-choice.false)) _ c.with_number-further.ensures (sym c.is_stuck.ensures ∙ c.if-is_stuck.false)
+    step_on c.args.self c.requires.ready (search rules) c.args.«at» c.requires.standing c.requires.depth_nonzero _ (λ x d. never (sym c.if-done.false ∙ d.0)) (c.requires.depth_bound c.if-done.false) _ _ c.choices-choices.ensures.last c.choices-choices.ensures.least (omega (arith, c.if-choices-choice.false)) _ (rw c.from-n.ensures at c.with_number-further.ensures) (sym c.is_stuck.ensures ∙ c.if-is_stuck.false)

@@ -1,2 +1,0 @@
--- What the writers of text go by.
-pub mod Digits
