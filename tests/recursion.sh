@@ -296,10 +296,11 @@ code_seen 'a call through a pointer in a program' "a call in main is not by a fu
 
 # ---- the crates of crates.txt. Their functions must be in the MIR, or in rt's modules, each with its name, or a call could go unseen.
 in_source() { sed 's|//.*||' "crates/$1"/src/*.rt | grep -oE '(^|[^a-zA-Z0-9_])fn +[a-zA-Z0-9_]+' | sed 's/.* //' | sort; }
-# What stands in the MIR and in no source: a closure with what calls it, whose names are below its function's; what ends a value; a derived `default` or `eq`.
+# What stands in the MIR and in no source: a closure with what calls it, whose names are below its function's; what ends a value; a variant that is
+# handed to the kit as a function; a derived `default` or `eq`.
 in_mir() {
   grep -oE "\\[\"$1::[^\"]*\",\\{\"lifetimes\":[0-9]" "$work/crates/$1.mir" | sed -E 's/^\["([^"]*)".*/\1/' |
-    grep -vE '::fn::|\+none::drop$|(Default::default|PartialEq::eq)$' | sed 's/.*://' | sort
+    grep -vE '::fn::|\+none::drop$|\+[A-Z][A-Za-z]*\+FnOnce::call_once$|(Default::default|PartialEq::eq)$' | sed 's/.*://' | sort
 }
 # Whether a crate is a part of the library. The others are the programs, and what opens files for them, and the two archives.
 is_inside() { [ ! -f "crates/$1/src/main.rt" ] && [ "$1" != files ] && ! grep -qE "^$1 +staticlib" crates.txt; }

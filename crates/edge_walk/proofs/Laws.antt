@@ -1,5 +1,6 @@
 -- The laws of the walk.
 -- the numbers of a row, the choices for one of them, where a walk stands and its steps, the next region that it meets
+pub mod Ready
 pub mod Numbers
 pub mod Choice
 pub mod Stand

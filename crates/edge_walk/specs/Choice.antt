@@ -8,10 +8,10 @@ use Rattle.automata.specs.Rankings.{usedb, rank_room}
 use Rattle.regions.specs.Values.{Few, bounds_of, row_of, sought}
 use Rattle.regions.specs.Order.{numbers}
 use Rattle.regions.specs.Placing.{still, placed_at}
-use Rattle.regions.specs.declared.region.Clocks.{Clocks}
+use Rattle.regions.specs.declared.clocks.Clocks.{Clocks}
 use Rattle.regions.specs.declared.region.Region.{Region}
-use Rattle.regions.specs.declared.region.Sought.{Sought}
-use Rattle.edge_walk.specs.declared.choice.Search.{Search}
+use Rattle.std.specs.declared.option.Option as option_code
+use Rattle.edge_walk.specs.declared.search.Search.{Search}
 
 -- numbers -----------------------------------------------------------------------------------------------------------------------
 
@@ -36,7 +36,7 @@ First Q none = (x : Row) → Q x → ⊥
 First Q (some y) = Q y × ((x : Row) → Q x → (x ≡ y) ⊎ Below y x)
 
 -- an answer is the least of the rows
-pub record Answers (Q : Row → Type 0) (r : Sought) : Type 0 where
+pub record Answers (Q : Row → Type 0) (r : option_code.Option Region) : Type 0 where
   pub row : Option Row
   pub given : r ≡ sought row
   pub first : First Q row

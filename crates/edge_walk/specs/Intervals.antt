@@ -3,7 +3,7 @@ use Rattle.std.specs.Prelude.{ℕ, ◌+◌, ◌*◌, ◌≤◌, ◌<◌, ◌≡�
 use Rattle.automata.specs.Clocks.{at}
 use Rattle.regions.specs.Move.{permitsb}
 use Rattle.regions.specs.Placing.{still}
-use Rattle.edge_walk.specs.declared.choice.Search.{Search}
+use Rattle.edge_walk.specs.declared.search.Search.{Search}
 use Rattle.edge_walk.specs.declared.stand.Stand.{Stand}
 
 -- a stand that such a walk comes to: no ranks are chosen, nothing was tried yet where all intervals are, and those chosen are in range and permitted

@@ -6,7 +6,7 @@ use Rattle.regions.specs.Values.{row_of, region_of}
 use Rattle.regions.specs.Order.{numbers}
 use Rattle.regions.specs.declared.region.Region.{Region}
 use Rattle.edge_walk.specs.Choice.{Agree, Candidate, numbers_of, stuckb}
-use Rattle.edge_walk.specs.declared.choice.Search.{Search}
+use Rattle.edge_walk.specs.declared.search.Search.{Search}
 use Rattle.edge_walk.specs.declared.stand.Stand.{Stand}
 
 -- stands ------------------------------------------------------------------------------------------------------------------------

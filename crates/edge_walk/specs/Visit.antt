@@ -2,7 +2,7 @@
 use Rattle.std.specs.Prelude.{◌+◌, ◌*◌, ◌<◌, ◌≡◌, Bool, true, false}
 use Rattle.automata.specs.Row.{Row}
 use Rattle.edge_walk.specs.Stand.{Begun, Ahead}
-use Rattle.edge_walk.specs.declared.choice.Search.{Search}
+use Rattle.edge_walk.specs.declared.search.Search.{Search}
 use Rattle.edge_walk.specs.declared.stand.Stand.{Stand}
 
 -- the flag b says whether all rows that are sought pass the test p

@@ -3,16 +3,9 @@
 ghost use Rattle.std.specs.Prelude.{◌≡◌, ◌+◌, ◌*◌, ◌≤◌, ◌<◌};
 ghost use Rattle.edge_walk.specs.Choice.{stuckb, PassesOver, Ready, Skips, Ends};
 
-use regions::placing::Moves;
-use regions::region::{Clocks, Region, is_open};
+use crate::search::Search;
+use regions::region::{Region, is_open};
 use regions::room::{is_used, next_unused};
-
-// What the walk goes by: the clocks, and their moves.
-#[derive(Clone, Copy)]
-pub struct Search {
-    pub clocks: Clocks,
-    pub moves: Moves,
-}
 
 // The choices that are left for a number: none where the least is above the last.
 #[derive(Clone, Copy)]
@@ -39,7 +32,6 @@ impl Search {
     // missing. In an interval that is not open the rank is 0, in any other at most the last there is room for.
     #[tactic(auto, using(crate::proofs::Laws::Choice::interval_skips, crate::proofs::Laws::Choice::interval_ends, crate::proofs::Laws::Choice::rank_shut, crate::proofs::Laws::Choice::rank_ends))]
     pub fn choices(self, part: Region, i: usize, from: u16) -> Choices
-        requires ready { Ready self }
         requires i_nonzero { (0 < i) × (i < 1 + 2 * self.clocks.count) }
         ensures least { Skips self part i from result.least }
         ensures last { Ends self part i result.last }
@@ -70,7 +62,6 @@ impl Search {
     // Whether the ranks chosen so far have no positions, so that nothing can come of the part: seen before the next rank is chosen.
     #[tactic(auto, using(crate::proofs::Laws::Choice::not_yet, crate::proofs::Laws::Choice::stuck_is))]
     pub fn is_stuck(self, part: Region, i: usize) -> bool
-        requires ready { Ready self }
         requires i_bound { i ≤ 1 + 2 * self.clocks.count }
         ensures { result ≡ stuckb self part i }
     {

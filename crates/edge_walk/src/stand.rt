@@ -1,9 +1,10 @@
 // Where a walk stands: the numbers chosen so far, and what is left to try for the next one. A walk is a loop of steps from one stand to the next.
+// Bounds of a number stay clauses here: the check finds them at each call, and a type around the number would be opened at each use.
 ghost use Rattle.std.specs.Prelude.{◌≡◌, true, false, ◌+◌, ◌*◌, ◌≤◌, ◌<◌};
 ghost use Rattle.edge_walk.specs.Choice.{Ready};
 ghost use Rattle.edge_walk.specs.Stand.{start, back, Begun, Standing, Advance};
 
-use crate::choice::Search;
+use crate::search::Search;
 use regions::region::Region;
 
 // The first `depth` numbers of the part are chosen; what stands in the others is left from choices before. For the next one the choices from `least` on
@@ -48,7 +49,6 @@ impl Search {
     // One step: back where all that begins with the numbers chosen is done, or where no choice is left for the next number; else on to the least that is
     // left, or past it if nothing can come of it.
     pub fn step(self, at: Stand, done: bool) -> Stand
-        requires ready { Ready self }
         requires standing { Standing self at }
         requires depth_nonzero { 0 < at.depth }
         requires depth_bound { done ≡ false → at.depth < 1 + 2 * self.clocks.count }

@@ -1,5 +1,7 @@
 // The walk over an edge's next regions: the least of them above a given one.
-ghost use Rattle.std.specs.Prelude.{◌≡◌, ◌&&◌, ◌≤◌, eqb, ltb};
+// Bounds of a number stay clauses here: the check finds them at each call, and a type around the number would be opened at each use.
+// What joins two parameters stays a clause here: a type of both would be made anew for each call, and taken apart in it.
+ghost use Rattle.std.specs.Prelude.{◌≡◌, ◌&&◌, ◌≤◌};
 ghost use Rattle.automata.specs.Row.{IsRow};
 ghost use Rattle.automata.specs.Rows.{isrowb};
 ghost use Rattle.automata.specs.Edge.{Bounded};
@@ -8,19 +10,19 @@ ghost use Rattle.regions.specs.Values.{Few, bounds_of, row_of, region_of, sought
 ghost use Rattle.edge_walk.specs.Walk.{first_above};
 ghost use Rattle.edge_walk.specs.Choice.{Ready, Answers};
 ghost use Rattle.edge_walk.specs.Stand.{after, Ahead, Standing};
-ghost use Rattle.edge_walk.specs.Way.{way_rows};
+ghost use Rattle.edge_walk.specs.Way.{rows_on};
 
-use crate::choice::Search;
+use crate::search::Search;
 use crate::stand::{Stand, start_in, step_back};
 use crate::way::{Way, way_by};
+use regions::clocks::Clocks;
 use regions::edge::Edge;
-use regions::region::{Clocks, Region, Sought, missing};
+use regions::region::Region;
 
 impl Search {
     // The least region that is ahead of a walk which stands there.
     #[tactic(auto, using(crate::proofs::Laws::Meet::one_met, crate::proofs::Laws::Meet::not_all, crate::proofs::Laws::Meet::nothing_met))]
-    fn meet(self, start: Stand) -> Sought
-        requires ready { Ready self }
+    fn meet(self, start: Stand) -> Option<Region>
         requires standing { Standing self start }
         ensures { Answers (Ahead self start) result }
     {
@@ -29,20 +31,16 @@ impl Search {
         while 0 < at.depth {
             let done = at.depth == all;
             if is_met(self.clocks, at.part, done) {
-                return Sought {
-                    found: true,
-                    region: at.part,
-                };
+                return Some(at.part);
             }
             at = self.step(at, done);
         }
-        missing()
+        None
     }
 }
 
 // Whether a part is a region, all of its numbers being chosen.
 fn is_met(clocks: Clocks, part: Region, chosen: bool) -> bool
-    requires { Few clocks }
     ensures { result ≡ (chosen && isrowb (bounds_of clocks) (row_of clocks.count part)) }
 {
     chosen && part.is_region(clocks)
@@ -72,34 +70,21 @@ fn after(n: usize, region: Region) -> Stand
     step_back(n, met)
 }
 
-// Whether every region of the location is below the floor.
-fn is_past(floor: Sought, location: u8) -> bool
-    ensures { result ≡ (floor.found && ltb location floor.region.location) }
-{
-    floor.found && location < floor.region.location
-}
-
-// Whether there is a floor, and it is in the location.
-fn is_at(floor: Sought, location: u8) -> bool
-    ensures { result ≡ (floor.found && eqb floor.region.location location) }
-{
-    floor.found && floor.region.location == location
-}
-
 impl Way {
     // The least region on the way above the floor, or the first where there is no floor; or none. Where the floor is in the target, the walk goes on right
     // past it, whether it was met or not.
-    #[tactic(auto, using(crate::proofs::Laws::Along::nowhere, crate::proofs::Laws::Along::all_below, crate::proofs::Laws::Along::stands_after))]
-    pub fn next(self, floor: Sought) -> Sought
-        requires { Ready self.search }
-        ensures { result ≡ sought (first_above (found_of self.search.clocks.count floor) (way_rows self)) }
+    pub fn next(self, floor: Option<Region>) -> Option<Region>
+        ensures { result ≡ sought (first_above (found_of self.search.clocks.count floor) (rows_on self)) }
     {
-        if !self.leads || is_past(floor, self.target) {
-            return missing();
-        }
-        if is_at(floor, self.target) {
-            let n = usize::from(self.search.clocks.count);
-            return self.search.meet(after(n, floor.region));
+        if let Some(region) = floor {
+            // every region of the target is below it
+            if self.target < region.location {
+                return None;
+            }
+            if region.location == self.target {
+                let n = usize::from(self.search.clocks.count);
+                return self.search.meet(after(n, region));
+            }
         }
         self.search.meet(start_in(self.target))
     }
@@ -107,12 +92,11 @@ impl Way {
 
 // The least region above the floor, or the first where there is no floor, of those that the edge leads to; or none. For a caller that wants one region:
 // following works the way out once, and then asks it for each.
-pub fn next_region(clocks: Clocks, from: Region, e: Edge, floor: Sought) -> Sought
-    requires few { Few clocks }
-    requires guard_count_bound { e.guard_count ≤ 8 }
+#[tactic(auto, using(crate::proofs::Laws::First::nothing_first))]
+pub fn next_region(clocks: Clocks, from: Region, e: Edge, floor: Option<Region>) -> Option<Region>
     requires row { IsRow (bounds_of clocks) (row_of clocks.count from) }
     requires bounded { Bounded (bounds_of clocks) (edge_of clocks.count e) }
     ensures { result ≡ sought (first_above (found_of clocks.count floor) (edge_rows (bounds_of clocks) (edge_of clocks.count e) (row_of clocks.count from))) }
 {
-    way_by(clocks, from, e).next(floor)
+    way_by(clocks, from, e)?.next(floor)
 }

@@ -13,6 +13,7 @@ pub fn read_bytes<R: Read>(reader: &mut R, buffer: &mut [u8]) -> io::Result<usiz
     ensures first { IfOk result (λ n. IfSome (R.remaining reader.old) (λ bytes. take n buffer.new ≡ take (length buffer.old) bytes)) }
 {
     let mut done = 0;
+    // by hand: no method of the library fills a buffer as far as a file goes, and tells how far, without a heap
     while done < buffer.len() {
         let more = reader.read(&mut buffer[done..])?;
         if more == 0 {

@@ -1,10 +1,11 @@
 // Document 01's examples of following, P5 to P8 and P10, run: each is a table and a row in bytes. Printed are the count of next rows and then, a
 // line for each, its intervals and its ranks.
+// Bounds of a number stay clauses here: the check finds them at each call, and a type around the number would be opened at each use.
 #![tactic(auto)]
 
 ghost use Rattle.std.specs.Prelude.{◌≤◌};
 
-use following::follow::{Followed, follow};
+use following::follow::follow;
 use rows::row::row_width;
 use std::io;
 
@@ -50,11 +51,15 @@ fn show(
 {
     let mut buffer = [0u8; 60];
     match follow(table, row, number, &mut buffer) {
-        Followed::Written(count) => {
+        Ok(count) => {
             println!(rt; "{name} {count}")?;
             print_rows(rt, &buffer, n, count)
         }
-        Followed::Refused(refusal, place) => println!(rt; "{name} REFUSED {refusal} {place}"),
+        Err(refusal) => println!(rt;
+            "{name} REFUSED {} {}",
+            refusal.fault.number(),
+            refusal.place
+        ),
     }
 }
 

@@ -9,18 +9,12 @@ use Rattle.automata.specs.Next.{TimeSuccessor}
 use Rattle.automata.specs.Closed.{RowOf}
 use Rattle.automata.specs.Successors.{held, wait_rows, edge_rows}
 use Rattle.regions.specs.Values.{Few, bounds_of, row_of, found_of, edge_of}
-use Rattle.regions.specs.declared.region.Clocks as clocks_code
+use Rattle.regions.specs.declared.clocks.Clocks as clocks_code
 use Rattle.regions.specs.declared.region.Region.{Region}
-use Rattle.regions.specs.declared.region.Sought.{Sought}
 use Rattle.regions.specs.declared.edge.Edge as edge_code
 use Rattle.table_files.specs.Answer.{Answer, accepted, refused}
 use Rattle.calls.specs.RegionFile.{row_bytes, rows_bytes}
-use Rattle.following.specs.declared.follow.Followed as followed_code
-
--- "For each answer that is an enum, a definition gives this paper's number and values for each of the enum's cases"
-abbrev pub answer_of : followed_code.Followed → Answer
-answer_of (followed_code.TheVariants.Written count) = accepted count
-answer_of (followed_code.TheVariants.Refused number place) = refused number place
+use Rattle.std.specs.declared.option.Option as option_code
 
 -- the region is one for these clocks, whose bounds are at most 127, so that its intervals are bytes
 pub record Stands (k : clocks_code.Clocks) (r : Region) : Type 0 where
@@ -41,7 +35,7 @@ abbrev pub rows_led : clocks_code.Clocks → edge_code.Edge → Region → List 
 rows_led k e r = edge_rows (bounds_of k) (edge_of k.count e) (row_of k.count r)
 
 -- the row that was found, or none
-abbrev pub row_found : ℕ → Sought → List Row
+abbrev pub row_found : ℕ → option_code.Option Region → List Row
 row_found n s = held (found_of n s)
 
 -- all of the rows fit in so many bytes

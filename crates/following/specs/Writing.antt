@@ -2,7 +2,7 @@
 use Rattle.std.specs.Prelude.{ℕ, ◌≤◌, ◌<◌, ◌≡◌, Bool, cond, List, [], ◌∷◌, ◌++◌, length, drop}
 use Rattle.automata.specs.Clocks.{at}
 use Rattle.automata.specs.Row.{Row}
-use Rattle.regions.specs.declared.region.Clocks as clocks_code
+use Rattle.regions.specs.declared.clocks.Clocks as clocks_code
 use Rattle.calls.specs.RegionFile.{rows_bytes}
 
 -- the bounds are those of a table file, so that intervals are bytes

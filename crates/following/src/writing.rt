@@ -1,23 +1,24 @@
 // Writing the rows of all regions that an edge leads to. The walk chooses their intervals; the regions of the same intervals stand together, and their ranks
 // are read from a table.
+// Bounds of a number stay clauses here: the check finds them at each call, and a type around the number would be opened at each use.
+// What joins two parameters stays a clause here: a type of both would be made anew for each call, and taken apart in it.
 ghost use Rattle.std.specs.Prelude.{◌≡◌, ℕ, ◌≤◌, ◌<◌, length};
 ghost use Rattle.automata.specs.Clocks.{at};
 ghost use Rattle.regions.specs.Values.{row_of};
 ghost use Rattle.rankings.specs.Ranking.{InRange};
-ghost use Rattle.rankings.specs.Table.{table};
-ghost use Rattle.edge_walk.specs.Choice.{Ready};
 ghost use Rattle.edge_walk.specs.Intervals.{Chosen};
-ghost use Rattle.edge_walk.specs.Way.{way_rows};
+ghost use Rattle.edge_walk.specs.Way.{rows_on};
 ghost use Rattle.calls.specs.RegionFile.{rows_bytes};
 ghost use Rattle.ranked_ways.specs.Allowed.{rows_allowed, rows_chosen, Permitted};
 ghost use Rattle.ranked_ways.specs.Memo.{Kept};
 ghost use Rattle.following.specs.Writing.{Low, Holds, row_if};
 
-use edge_walk::choice::Search;
+use edge_walk::search::Search;
 use edge_walk::stand::{Stand, start_in};
 use edge_walk::way::Way;
 use ranked_ways::ranked_way::{is_allowed, parted_pattern};
 use rankings::ranking::{all_rankings, first_ranking, ranked_from, rankings_of};
+use rankings::table::Rankings;
 use regions::region::Region;
 use rows::row::row_width;
 use rows::row_writer::write_row;
@@ -41,12 +42,10 @@ fn write_if(buffer: &mut [u8], n: usize, region: Region, wanted: bool) -> usize
 fn write_ranked(
     buffer: &mut [u8],
     memo: &mut [u8],
-    rankings: &[[u8; 4]],
+    rankings: &Rankings,
     search: Search,
     part: Region,
 ) -> usize
-    requires rankings_value { rankings.now ≡ table }
-    requires ready { Ready search }
     requires low { Low search.clocks }
     requires in_range { InRange search.clocks part }
     requires permitted { Permitted search part }
@@ -75,12 +74,10 @@ fn write_ranked(
 fn write_chosen(
     buffer: &mut [u8],
     memo: &mut [u8],
-    rankings: &[[u8; 4]],
+    rankings: &Rankings,
     search: Search,
     stand: Stand,
 ) -> usize
-    requires rankings_value { rankings.now ≡ table }
-    requires ready { Ready search }
     requires low { Low search.clocks }
     requires chosen { Chosen search stand }
     requires kept { Kept search memo.old }
@@ -97,15 +94,11 @@ fn write_chosen(
 
 // Writes the rows of all regions on a way, ascending, each from the next free byte on; tells in how many bytes.
 pub fn write_all(buffer: &mut [u8], way: Way) -> usize
-    requires ready { Ready way.search }
     requires low { Low way.search.clocks }
-    requires way_in_bounds { length (rows_bytes (way_rows way)) ≤ length buffer.old }
-    ensures bytes { result ≡ length (rows_bytes (way_rows way)) }
-    ensures rows { Holds (way_rows way) buffer.old buffer.new }
+    requires way_in_bounds { length (rows_bytes (rows_on way)) ≤ length buffer.old }
+    ensures bytes { result ≡ length (rows_bytes (rows_on way)) }
+    ensures rows { Holds (rows_on way) buffer.old buffer.new }
 {
-    if !way.leads {
-        return 0;
-    }
     let search = way.search;
     let rankings = all_rankings();
     let mut memo = [0u8; 2400];

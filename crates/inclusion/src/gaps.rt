@@ -1,23 +1,19 @@
 // Where a region would stand that a region list lacks, of those that an edge leads to: a hint where to look for one, of which nothing is promised.
+// Bounds of a number stay clauses here: the check finds them at each call, and a type around the number would be opened at each use.
 ghost use Rattle.std.specs.Prelude.{◌+◌, ◌*◌, ◌≤◌, length};
 ghost use Rattle.automata.specs.Row.{IsRow};
-ghost use Rattle.automata.specs.Edge.{Bounded};
-ghost use Rattle.automata.specs.Closed.{Ascends};
-ghost use Rattle.regions.specs.Values.{bounds_of, row_of, edge_of};
+ghost use Rattle.regions.specs.Values.{bounds_of, row_of};
 ghost use Rattle.calls.specs.RegionFile.{row_width};
-ghost use Rattle.edge_walk.specs.Choice.{Ready};
 ghost use Rattle.edge_walk.specs.Stand.{Standing};
 ghost use Rattle.edge_walk.specs.Intervals.{Chosen};
-ghost use Rattle.listed_rows.specs.Listed.{listed_rows, Listed};
-ghost use Rattle.listed_rows.specs.Located.{RowsIn};
 
 use crate::inside::all_inside;
-use edge_walk::choice::Search;
+use edge_walk::search::Search;
 use edge_walk::stand::{Stand, start_in};
 use edge_walk::way::open_way;
+use listed_rows::edge_in_list::EdgeInList;
 use listed_rows::listed::{Span, row_is_below, row_is_beside};
-use regions::edge::Edge;
-use regions::region::{Clocks, Region};
+use regions::region::Region;
 
 // The first row from k to before end that is not below a region, or end.
 fn first_from(list: &[u8], n: usize, k: usize, end: usize, wanted: Region) -> usize
@@ -48,7 +44,6 @@ fn part_gap(list: &[u8], n: usize, at: usize, end: usize, part: Region) -> usize
 // Where a row would stand of the first intervals that a walk over intervals alone chooses and that no row of the target has; or past the end. Both ascend,
 // so each row is passed once; and there are no more choices before that than rows.
 fn interval_gap(list: &[u8], search: Search, start: Stand, into: Span) -> usize
-    requires ready { Ready search }
     requires standing { Standing search start }
     requires chosen { Chosen search start }
     requires start_le_end { (into.start ≤ into.end) × (into.end ≤ 4096) }
@@ -77,29 +72,19 @@ fn interval_gap(list: &[u8], search: Search, start: Stand, into: Span) -> usize
 
 // Where a region would stand that the list lacks, of those that an edge leads to from this one: the first of which no row has the intervals, or else the
 // first of all.
-pub fn first_gap(
-    list: &[u8],
-    clocks: Clocks,
-    count: usize,
-    e: Edge,
-    from: Region,
-    into: Span,
-) -> usize
-    requires listed { Listed clocks list.now count }
-    requires ascends { Ascends (listed_rows clocks.count list.now count) }
-    requires bounded { Bounded (bounds_of clocks) (edge_of clocks.count e) }
-    requires row { IsRow (bounds_of clocks) (row_of clocks.count from) }
-    requires rows_in { RowsIn clocks.count list.now count e.target into.start into.end }
+pub fn first_gap(edge: &EdgeInList, from: Region) -> usize
+    requires row { IsRow (bounds_of edge.now.list.clocks) (row_of edge.now.list.clocks.count from) }
 {
-    let way = open_way(clocks, from, e);
-    if !way.leads {
+    let list = &edge.list;
+    let into = edge.into;
+    let Some(way) = open_way(list.clocks, from, edge.e) else {
         return 0;
-    }
-    let gap = interval_gap(list, way.search, start_in(way.target), into);
+    };
+    let gap = interval_gap(list.bytes, way.search, start_in(way.target), into);
     if gap <= into.end {
         return gap;
     }
-    match all_inside(list, count, way.search, start_in(way.target), 2 * count) {
+    match all_inside(list, way.search, start_in(way.target), 2 * list.count) {
         Ok(at) | Err(at) => at,
     }
 }

@@ -1,4 +1,5 @@
 // Births: in which order the rows of a list in the making were found.
+// Bounds of a number stay clauses here: the check finds them at each call, and a type around the number would be opened at each use.
 ghost use Rattle.std.specs.Prelude.{◌≡◌, ◌++◌, ◌+◌, ◌≤◌, ◌<◌, length, take, drop};
 ghost use Rattle.table_files.specs.Bytes.{two_bytes};
 ghost use Rattle.listed_rows.specs.Listed.{HasRow};

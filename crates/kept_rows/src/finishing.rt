@@ -1,4 +1,5 @@
 // The end of making a list: its header and its marks are written, or the buffer is cleared.
+// Bounds of a number stay clauses here: the check finds them at each call, and a type around the number would be opened at each use.
 ghost use Rattle.std.specs.Prelude.{◌≡◌, ◌++◌, ◌+◌, ◌*◌, ◌≤◌, length, take, drop, replicate};
 ghost use Rattle.table_files.specs.Bytes.{RL, two_bytes};
 ghost use Rattle.calls.specs.RegionFile.{row_width, rows_bytes, list_bytes};

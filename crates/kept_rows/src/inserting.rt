@@ -7,7 +7,8 @@ ghost use Rattle.listed_rows.specs.Listed.{Listed};
 ghost use Rattle.kept_rows.specs.Inserted.{Inserted};
 
 use crate::births::write_two;
-use regions::region::{Clocks, Region};
+use regions::clocks::Clocks;
+use regions::region::Region;
 use rows::row::row_width;
 use rows::row_writer::write_row;
 

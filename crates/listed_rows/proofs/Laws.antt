@@ -4,3 +4,4 @@ pub mod ListedNumbers
 pub mod Located
 pub mod Ranked
 pub mod Firsts
+pub mod RegionLists

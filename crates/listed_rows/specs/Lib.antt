@@ -2,3 +2,6 @@
 pub mod Listed
 pub mod Located
 pub mod Ranked
+pub mod RegionLists
+pub mod EdgesInLists
+pub mod Props

@@ -7,7 +7,7 @@ use Rattle.automata.specs.Row.{Row, IsRow}
 use Rattle.automata.specs.Rows.{from}
 use Rattle.automata.specs.Checks.{belowb}
 use Rattle.regions.specs.Values.{Few, bounds_of}
-use Rattle.regions.specs.declared.region.Clocks.{Clocks}
+use Rattle.regions.specs.declared.clocks.Clocks.{Clocks}
 use Rattle.calls.specs.RegionFile.{row_in, row_width}
 
 -- the bytes of row i, counted from 0, of n clocks: rows stand after the four bytes of the header

@@ -19,3 +19,9 @@ pub record Together (n : ℕ) (list : List ℕ) (count start l m : ℕ) : Type 0
 pub record RowsIn (n : ℕ) (list : List ℕ) (count l start end : ℕ) : Type 0 where
   pub starts : Starts n list count l start
   pub together : Together n list count start l end
+
+-- the rows from start to before end are in location l
+pub record Stretch (n : ℕ) (list : List ℕ) (count l start end : ℕ) : Type 0 where
+  pub from : start ≤ end
+  pub within : end ≤ count
+  pub all : (i : ℕ) → start ≤ i → i < end → (listed_row n list i).location ≡ l

@@ -1,4 +1,5 @@
 // The rows of a region list whose records were read: each is read again from its bytes, by value, as often as it is wanted.
+// Bounds of a number stay clauses here: the check finds them at each call, and a type around the number would be opened at each use.
 ghost use Rattle.std.specs.Prelude.{◌≡◌, ◌+◌, ◌*◌, ◌≤◌, ◌<◌, length, is_ok};
 ghost use Rattle.regions.specs.Order.{numbers, shared};
 ghost use Rattle.automata.specs.Closed.{Ascends};
@@ -7,7 +8,8 @@ ghost use Rattle.regions.specs.Values.{row_of, region_of};
 ghost use Rattle.listed_rows.specs.Listed.{listed_bytes, HasRow, listed_row, listed_rows, Listed, Splits, place_of};
 ghost use Rattle.listed_rows.specs.Ranked.{besideb};
 
-use regions::region::{Clocks, Region};
+use regions::clocks::Clocks;
+use regions::region::Region;
 use rows::row::{region_in, row_width, wide};
 
 // The bytes of row i, counted from 0, of a list of rows of n clocks.
@@ -42,7 +44,7 @@ pub fn location_at(list: &[u8], n: usize, i: usize) -> u8
 
 // How many numbers of row i and of a region are the same before they differ. A row's numbers stand in its bytes, after the mark, in the order
 // in which regions are compared, so nothing is copied.
-fn shared_with(list: &[u8], n: usize, i: usize, wanted: Region) -> usize
+pub fn shared_with(list: &[u8], n: usize, i: usize, wanted: Region) -> usize
     requires n_bound { n ≤ 4 }
     requires has_row { HasRow n list.now i }
     ensures { result ≡ shared (numbers (listed_row n list.now i)) (numbers (row_of n wanted)) }
@@ -55,7 +57,7 @@ fn shared_with(list: &[u8], n: usize, i: usize, wanted: Region) -> usize
 }
 
 // Whether row i comes before a region, where it is known how many of their numbers are the same.
-fn comes_below(list: &[u8], n: usize, i: usize, wanted: Region, same: usize) -> bool
+pub fn comes_below(list: &[u8], n: usize, i: usize, wanted: Region, same: usize) -> bool
     requires n_bound { n ≤ 4 }
     requires has_row { HasRow n list.now i }
     requires same_value { same ≡ shared (numbers (listed_row n list.now i)) (numbers (row_of n wanted)) }
@@ -85,7 +87,7 @@ pub fn row_is_beside(list: &[u8], n: usize, i: usize, wanted: Region) -> bool
 
 // Where to look next between low and high: at the hint, then from it in steps that double, then by halves. What is looked up mostly stands
 // near what was looked up before.
-fn guess(low: usize, high: usize, hint: usize) -> usize
+pub fn guess(low: usize, high: usize, hint: usize) -> usize
     requires { low < high }
     ensures { (low ≤ result) × (result < high) }
 {
@@ -111,70 +113,4 @@ fn guess(low: usize, high: usize, hint: usize) -> usize
 pub struct Span {
     pub start: usize,
     pub end: usize,
-}
-
-// Where a region stands among the ascending rows, or else where it would stand, so that as many of them are below it: the search ends where it is met.
-fn look_up(
-    list: &[u8],
-    clocks: Clocks,
-    count: usize,
-    wanted: Region,
-    hint: usize,
-) -> Result<usize, usize>
-    requires listed { Listed clocks list.now count }
-    requires ascends { Ascends (listed_rows clocks.count list.now count) }
-    ensures listed { is_ok result ≡ has (listed_rows clocks.count list.now count) (row_of clocks.count wanted) }
-    ensures splits { Splits (listed_row clocks.count list.now) count (row_of clocks.count wanted) (place_of result) }
-{
-    let n = clocks.count as usize;
-    let mut low = 0;
-    let mut high = count;
-    while low < high {
-        let middle = guess(low, high, hint);
-        let same = shared_with(list, n, middle, wanted);
-        if same == 1 + 2 * n {
-            return Ok(middle);
-        }
-        if comes_below(list, n, middle, wanted, same) {
-            low = middle + 1;
-        } else {
-            high = middle;
-        }
-    }
-    Err(low)
-}
-
-// Where a region stands among the ascending rows, or else where it would stand, looked for from a hint on.
-pub fn find(
-    list: &[u8],
-    clocks: Clocks,
-    count: usize,
-    wanted: Region,
-    hint: usize,
-) -> Result<usize, usize>
-    requires listed { Listed clocks list.now count }
-    requires ascends { Ascends (listed_rows clocks.count list.now count) }
-    ensures { is_ok result ≡ has (listed_rows clocks.count list.now count) (row_of clocks.count wanted) }
-{
-    look_up(list, clocks, count, wanted, hint)
-}
-
-// How many of the ascending rows are below a region, looked for from a hint on.
-pub fn rows_below(list: &[u8], clocks: Clocks, count: usize, wanted: Region, hint: usize) -> usize
-    requires listed { Listed clocks list.now count }
-    requires ascends { Ascends (listed_rows clocks.count list.now count) }
-    ensures { Splits (listed_row clocks.count list.now) count (row_of clocks.count wanted) result }
-{
-    match look_up(list, clocks, count, wanted, hint) {
-        Ok(at) | Err(at) => at,
-    }
-}
-
-// Whether a region is among the ascending rows.
-pub fn is_listed(list: &[u8], clocks: Clocks, count: usize, wanted: Region) -> bool
-    requires listed { Listed clocks list.now count }
-    requires ascends { Ascends (listed_rows clocks.count list.now count) }
-    ensures { result ≡ has (listed_rows clocks.count list.now count) (row_of clocks.count wanted) }
-{
-    find(list, clocks, count, wanted, 0).is_ok()
 }

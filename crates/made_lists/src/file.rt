@@ -16,13 +16,10 @@ use tables::answer::Answer;
 fn list_length(table: &[u8], rows: u16) -> usize
     ensures { Passes table.now → result ≡ 4 + rows * row_width (clocks (table_of table.now)) }
 {
-    let opened = open(table);
-    if opened.number != 0 {
+    let Ok(opened) = open(table) else {
         return 0;
-    }
-    let head = opened.head;
-    let clocks = head.clocks;
-    4 + (rows as usize) * row_width(clocks.count as usize)
+    };
+    4 + (rows as usize) * row_width(opened.head.clocks.count as usize)
 }
 
 // The bytes of the file of the list that was made from the table with this answer; none after a refusal.
@@ -30,7 +27,7 @@ pub fn made_length(table: &[u8], answer: Answer) -> usize
     ensures { answer_of answer ≡ make_answer table.now longest_list 4096 → result ≡ length (made_file table.now) }
 {
     match answer {
-        Answer::Accepted(rows) => list_length(table, rows),
-        Answer::Refused(_, _) => 0,
+        Ok(rows) => list_length(table, rows),
+        Err(_) => 0,
     }
 }

@@ -9,9 +9,9 @@ ghost use Rattle.tables.specs.Values.{answer_of};
 ghost use Rattle.calls.specs.RegionFile.{list_answer};
 ghost use Rattle.calls.specs.Making.{make_answer, make_buffer, list_in};
 ghost use Rattle.calls.specs.Meaning.{RegionListOf};
-ghost use Rattle.making_turns.specs.Work.{blank};
+ghost use Rattle.making_turns.specs.Work.{blank, Ended};
 
-use making_turns::turning::{begin, finish, turn};
+use making_turns::turning::{begin, turn};
 use regions::region::Region;
 use tables::answer::Answer;
 
@@ -33,6 +33,20 @@ pub fn wipe(rows: &mut [Region], zero: Region)
     rows.fill(zero);
 }
 
+// Makes the list turn by turn, up to the answer. The records are left as the turns left them.
+fn make_rows(table: &[u8], buffer: &mut [u8], waiting: &mut [Region]) -> Answer
+    ensures { Ended table.now buffer.old (length waiting.old) buffer.new result }
+{
+    let mut s = begin(table, buffer, waiting.len())?;
+    loop {
+        if let Some(answer) = s.ended {
+            return answer;
+        }
+        waiting[s.place] = s.row;
+        s = turn(table, buffer, waiting[s.take], s);
+    }
+}
+
 // Makes the list. Accepted: what the buffer begins with is the file of a closed list of so many rows, which the check of region lists accepts, and no run
 // ends in a final location. Refused by 21: some run does. Refused by 20: neither is said.
 pub fn make_list(table: &[u8], buffer: &mut [u8], waiting: &mut [Region]) -> Answer
@@ -43,13 +57,9 @@ pub fn make_list(table: &[u8], buffer: &mut [u8], waiting: &mut [Region]) -> Ans
     ensures empty { (k : ℕ) → answer_of result ≡ accepted k → Reached (table_of table.now) → ⊥ }
     ensures reached { (place : ℕ) → answer_of result ≡ refused 21 place → Reached (table_of table.now) }
 {
-    let mut s = begin(table, buffer, waiting.len());
-    while s.going {
-        waiting[s.place] = s.row;
-        s = turn(table, buffer, waiting[s.take], s);
-    }
+    let answer = make_rows(table, buffer, waiting);
     wipe(waiting, zeros());
-    finish(s)
+    answer
 }
 
 // Makes the list with a waiting list of its own. No reference to a record stands in its signature.

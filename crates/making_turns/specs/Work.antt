@@ -1,20 +1,21 @@
 -- How a list is made, turn by turn. Assumes nothing.
-use Rattle.std.specs.Prelude.{ℕ, suc, ◌+◌, ◌*◌, ◌-◌, ◌%◌, ◌≤◌, ◌<◌, ◌≡◌, Bool, true, false, cond, ◌⊎◌, List, length, replicate, set, get_or, drop, eqb}
-use Rattle.std.proofs.Math.Option.{none}
+use Rattle.std.specs.Prelude.{ℕ, suc, ◌+◌, ◌*◌, ◌-◌, ◌%◌, ◌≤◌, ◌<◌, ◌≡◌, Bool, true, false, cond, ◌⊎◌, List, length, replicate, set, get_or, drop, Option, None, Some, Result, Ok, Err}
 use Rattle.automata.specs.Row.{Row}
 use Rattle.automata.specs.Automaton.{Table}
 use Rattle.automata.specs.Closed.{Mem, Ascends, first_row}
 use Rattle.automata.specs.Kept.{Kept, Entered}
-use Rattle.regions.specs.Values.{row_of, sought}
+use Rattle.regions.specs.Values.{row_of}
+use Rattle.regions.specs.declared.clocks.Clocks.{Clocks}
 use Rattle.regions.specs.declared.region.Region.{Region}
-use Rattle.regions.specs.declared.region.Clocks.{Clocks}
-use Rattle.table_files.specs.Answer.{Answer, accepted, refused}
+use Rattle.table_files.specs.Reading.{bad}
 use Rattle.table_files.specs.Admission.{table_of}
 use Rattle.table_records.specs.declared.head.Head.{Head}
-use Rattle.tables.specs.Values.{Describes}
+use Rattle.table_records.specs.declared.refusal.Refusal.{Refusal}
+use Rattle.table_records.specs.Refusal.{number_of}
+use Rattle.tables.specs.Values.{answer_of, Describes}
 use Rattle.tables.specs.Bounds.{edge_start}
 use Rattle.calls.specs.RegionFile.{row_width}
-use Rattle.calls.specs.Making.{make_answer, make_buffer}
+use Rattle.calls.specs.Making.{making, make_answer, make_buffer}
 use Rattle.listed_rows.specs.Listed.{listed_row, listed_rows, Listed}
 use Rattle.kept_rows.specs.Births.{birth}
 use Rattle.next_steps.specs.Steps.{plain, Settled, NewBy}
@@ -62,13 +63,14 @@ Tied n out count ws = (i : ℕ) → i < count → row_of n (get_or ws (birth n o
 
 -- turns -----------------------------------------------------------------------------------------------------------------------------
 
--- the answer of work that has ended: number 0 is no refusal, and then the count, which is far below 65,536
-abbrev pub told : work_code.Work → Answer
-told s = cond (eqb s.number 0) (accepted (s.count % 65536)) (refused s.number s.at)
+-- 1 for work that goes on
+abbrev pub going : Option (Result ℕ Refusal) → ℕ
+going None = 1
+going (Some a) = 0
 
 -- what is left to do: it falls with every turn
 unfoldable pub left : work_code.Work → ℕ
-left s = (4096 - s.count) * 100000 + (4096 - s.top) * 4 + (4096 - s.start) * 2 + cond s.walking 1 0 + cond s.going 1 0
+left s = (4096 - s.count) * 100000 + (4096 - s.top) * 4 + (4096 - s.start) * 2 + cond s.walking 1 0 + going s.ended
 
 -- the waiting list once the row is stored that the turn before wanted to be
 abbrev pub stored : List Region → work_code.Work → List Region
@@ -76,18 +78,17 @@ stored ws s = set ws s.place s.row
 
 -- where the record of the step's edge begins
 abbrev pub Stands : List ℕ → work_code.Work → Type 0
-Stands table s = (j : ℕ) → s.step ≡ suc j → s.here ≡ edge_start s.head.clocks.count s.head.locations table j
+Stands table s = (j : ℕ) → s.last.step ≡ suc j → s.last.here ≡ edge_start s.head.clocks.count s.head.locations table j
 
 -- work stands so, with these waiting rows: `before` is the buffer as it was lent, with so many waiting records
 pub record Standing (table before : List ℕ) (records : ℕ) (out : List ℕ) (ws : List Region) (s : work_code.Work) : Type 0 where
   pub describes : Describes table s.head
-  pub grown : Grown (table_of table) s.head.clocks before out s.count s.start s.top s.step s.walking s.entered
-  pub on : s.going ≡ true
-  pub unrefused : s.number ≡ 0
-  pub step_in : s.step ≤ suc s.head.edges
+  pub grown : Grown (table_of table) s.head.clocks before out s.count s.start s.top s.last.step s.walking s.last.entered
+  pub on : s.ended ≡ None
+  pub step_in : s.last.step ≤ suc s.head.edges
   pub stands : Stands table s
-  pub edge_next : s.walking ≡ true → 1 ≤ s.step
-  pub walked_from : s.from.found ≡ true → Mem (row_of s.head.clocks.count s.from.region) (listed_rows s.head.clocks.count out s.count)
+  pub edge_next : s.walking ≡ true → 1 ≤ s.last.step
+  pub walked_from : (v : Region) → s.last.from ≡ Some v → Mem (row_of s.head.clocks.count v) (listed_rows s.head.clocks.count out s.count)
   pub sized : length ws ≡ records
   pub enough : 4096 ≤ records
   pub place_in : s.place < records
@@ -105,21 +106,31 @@ pub record Working (table before : List ℕ) (records : ℕ) (out : List ℕ) (w
   pub same_length : length out ≡ length before
 
 -- work has ended: the answer and the buffer are those of the definitions
-pub record Ended (table before : List ℕ) (records : ℕ) (out : List ℕ) (s : work_code.Work) : Type 0 where
-  pub answer : told s ≡ make_answer table (length before) records
+pub record Ended (table before : List ℕ) (records : ℕ) (out : List ℕ) (a : Result ℕ Refusal) : Type 0 where
+  pub answer : answer_of a ≡ make_answer table (length before) records
   pub buffer : out ≡ make_buffer table records before
 
 -- it goes on, or has ended
 pub record Loops (table before : List ℕ) (records : ℕ) (out : List ℕ) (ws : List Region) (s : work_code.Work) : Type 0 where
-  pub goes : s.going ≡ true → Working table before records out ws s
-  pub ends : s.going ≡ false → Ended table before records out s
+  pub goes : s.ended ≡ None → Working table before records out ws s
+  pub ends : (a : Result ℕ Refusal) → s.ended ≡ Some a → Ended table before records out a
+
+-- it begins, or has ended at once
+abbrev pub Begins : List ℕ → List ℕ → ℕ → List ℕ → List Region → Result work_code.Work Refusal → Type 0
+Begins table before records out ws (Ok s) = Working table before records out ws s
+Begins table before records out ws (Err r) = Ended table before records out (Err r)
+
+-- the same before the buffer is cleared: what is refused is refused by the definitions
+abbrev pub BeginsRows : List ℕ → List ℕ → ℕ → List ℕ → List Region → Result work_code.Work Refusal → Type 0
+BeginsRows table before records out ws (Ok s) = Working table before records out ws s
+BeginsRows table before records out ws (Err r) = (making table (length before) records ≡ bad (number_of r.fault) r.place) × (length out ≡ length before)
 
 -- one after the other ------------------------------------------------------------------------------------------------------------------
 
 -- work begins with the initial row, which is the first to be stored and to be taken
 abbrev pub starting : Head → Region → work_code.Work
 starting head x = record {
-  going = true;
+  ended = None;
   place = 0;
   row = x;
   take = 0;
@@ -128,42 +139,36 @@ starting head x = record {
   start = 0;
   top = 0;
   walking = false;
-  step = 0;
-  here = 0;
-  «from» = sought none;
-  floor = sought none;
-  entered = false;
-  number = 0;
-  at = 0;
+  last = record { next = None; step = 0; here = 0; entered = false; «from» = None };
 }
 
 -- a look for a new row has come so far
 abbrev pub went : work_code.Work → stride_code.Stride → work_code.Work
-went s q = record s { step = q.step; here = q.here; «from» = q.from; floor = q.next; entered = q.entered }
+went s q = record s { last = q }
 
 -- the next row is followed
 abbrev pub next_row : work_code.Work → work_code.Work
-next_row s = record s { take = s.top + 1; top = s.top + 1; step = 0 }
+next_row s = record s { take = s.top + 1; top = s.top + 1; last = record s.last { step = 0 } }
 
 -- the rows that were followed are walked, from the edge on whose record begins here
 abbrev pub to_walks : work_code.Work → ℕ → work_code.Work
-to_walks s first = record s { top = s.top + 1; walking = true; step = 1; here = first }
+to_walks s first = record s { top = s.top + 1; walking = true; last = record s.last { step = 1; here = first } }
 
 -- those that were found since are followed
 abbrev pub to_rows : work_code.Work → work_code.Work
-to_rows s = record s { take = s.top; start = s.top; walking = false; step = 0 }
+to_rows s = record s { take = s.top; start = s.top; walking = false; last = record s.last { step = 0 } }
 
 -- a row is added, which the next turn stores
 abbrev pub adding : work_code.Work → Region → work_code.Work
 adding s x = record s { place = s.count; row = x; count = s.count + 1 }
 
 -- work ends with a refusal
-abbrev pub refusing : work_code.Work → ℕ → ℕ → work_code.Work
-refusing s number place = record s { going = false; number = number; at = place }
+abbrev pub refusing : work_code.Work → Refusal → work_code.Work
+refusing s r = record s { ended = Some (Err r) }
 
--- work ends with a list
+-- work ends with a list: the answer is the count, which is far below 65,536
 abbrev pub ending : work_code.Work → work_code.Work
-ending s = record s { going = false }
+ending s = record s { ended = Some (Ok (s.count % 65536)) }
 
 -- new rows ----------------------------------------------------------------------------------------------------------------------------
 

@@ -1,23 +1,21 @@
 // What stands between two turns of the making of a list.
-ghost use Rattle.std.specs.Prelude.{◌≡◌, true, false, ◌⊎◌, ℕ, suc, ◌+◌, ◌*◌, ◌≤◌, ◌<◌, length, replicate};
-ghost use Rattle.tables.specs.Values.{answer_of};
-ghost use Rattle.calls.specs.RegionFile.{row_width};
-ghost use Rattle.making_turns.specs.Work.{told, starting, went, next_row, to_walks, to_rows, adding, refusing, ending};
+ghost use Rattle.std.specs.Prelude.{◌≡◌, ◌+◌, ◌*◌, ◌<◌};
+ghost use Rattle.making_turns.specs.Work.{starting, went, next_row, to_walks, to_rows, adding, refusing, ending};
 
 use next_steps::stride::Stride;
-use regions::region::{Region, Sought, missing};
-use rows::row::row_width;
+use regions::region::Region;
 use table_records::head::Head;
-use tables::admission::first_edge;
+use table_records::refusal::Refusal;
 use tables::answer::Answer;
+use tables::reading::first_edge;
 
 // The next turn stores `row` at `place` of the waiting list and takes the row at `take`. `count` rows are kept; the first `top` of them, in the order in
-// which they were found, have been followed by plain steps, the first `start` by all; `walking` tells which of the two is being done. It goes on with
-// `step`: 0 is waiting, and above it the edges, of which this one's record begins at `here`; a walk goes on from the row `from`, past `floor`. Where it has
-// ended, `number` and `at` are the refusal, or 0.
+// which they were found, have been followed by plain steps, the first `start` by all; `walking` tells which of the two is being done. It goes on from the
+// `last` stride: with its step, where 0 is waiting, and above it the edges, of which this one's record begins at `here`; a walk goes on from the row that was
+// walked `from`, past the new row that was found there. `ended` is the answer, once there is one.
 #[derive(Clone, Copy)]
 pub struct Work {
-    pub going: bool,
+    pub ended: Option<Answer>,
     pub place: usize,
     pub row: Region,
     pub take: usize,
@@ -26,13 +24,7 @@ pub struct Work {
     pub start: usize,
     pub top: usize,
     pub walking: bool,
-    pub step: u16,
-    pub here: usize,
-    pub from: Sought,
-    pub floor: Sought,
-    pub entered: bool,
-    pub number: u8,
-    pub at: u16,
+    pub last: Stride,
 }
 
 // Work that begins with the initial row.
@@ -40,7 +32,7 @@ pub fn starting(head: Head, first: Region) -> Work
     ensures { result ≡ starting head first }
 {
     Work {
-        going: true,
+        ended: None,
         place: 0,
         row: first,
         take: 0,
@@ -49,13 +41,13 @@ pub fn starting(head: Head, first: Region) -> Work
         start: 0,
         top: 0,
         walking: false,
-        step: 0,
-        here: 0,
-        from: missing(),
-        floor: missing(),
-        entered: false,
-        number: 0,
-        at: 0,
+        last: Stride {
+            next: None,
+            step: 0,
+            here: 0,
+            entered: false,
+            from: None,
+        },
     }
 }
 
@@ -64,14 +56,7 @@ impl Work {
     pub fn went(self, q: Stride) -> Work
         ensures { result ≡ went self q }
     {
-        Work {
-            step: q.step,
-            here: q.here,
-            from: q.from,
-            floor: q.next,
-            entered: q.entered,
-            ..self
-        }
+        Work { last: q, ..self }
     }
 
     // The next row is followed.
@@ -82,7 +67,10 @@ impl Work {
         Work {
             take: self.top + 1,
             top: self.top + 1,
-            step: 0,
+            last: Stride {
+                step: 0,
+                ..self.last
+            },
             ..self
         }
     }
@@ -95,8 +83,11 @@ impl Work {
         Work {
             top: self.top + 1,
             walking: true,
-            step: 1,
-            here: first_edge(self.head),
+            last: Stride {
+                step: 1,
+                here: first_edge(self.head),
+                ..self.last
+            },
             ..self
         }
     }
@@ -109,7 +100,10 @@ impl Work {
             take: self.top,
             start: self.top,
             walking: false,
-            step: 0,
+            last: Stride {
+                step: 0,
+                ..self.last
+            },
             ..self
         }
     }
@@ -132,30 +126,18 @@ impl Work {
         ensures { result ≡ ending self }
     {
         Work {
-            going: false,
+            ended: Some(Ok((self.count % 65536) as u16)),
             ..self
         }
     }
 
     // It ends with a refusal.
-    pub fn refusing(self, number: u8, at: u16) -> Work
-        ensures { result ≡ refusing self number at }
+    pub fn refusing(self, refusal: Refusal) -> Work
+        ensures { result ≡ refusing self refusal }
     {
         Work {
-            going: false,
-            number,
-            at,
+            ended: Some(Err(refusal)),
             ..self
         }
-    }
-
-    // The answer at the end.
-    pub fn answer(self) -> Answer
-        ensures { answer_of result ≡ told self }
-    {
-        if self.number == 0 {
-            return Answer::Accepted((self.count % 65536) as u16);
-        }
-        Answer::Refused(self.number, self.at)
     }
 }

@@ -1,5 +1,5 @@
 -- The steps by which a row's next rows come: 0 is waiting, and each number above it an edge. Assumes nothing.
-use Rattle.std.specs.Prelude.{ℕ, zero, suc, ◌≤◌, ◌<◌, ◌≡◌, Bool, true, false, ◌||◌, ◌⊎◌, List, length}
+use Rattle.std.specs.Prelude.{ℕ, zero, suc, ◌≤◌, ◌<◌, ◌≡◌, Bool, true, false, ◌||◌, ◌⊎◌, List, length, Option, None, Some}
 use Rattle.automata.specs.Row.{Row}
 use Rattle.automata.specs.Automaton.{Table, clocks, edge, final}
 use Rattle.automata.specs.Closed.{Mem}
@@ -7,7 +7,7 @@ use Rattle.automata.specs.Next.{time_successors, edge_successors}
 use Rattle.automata.specs.Checks.{every, has}
 use Rattle.regions.specs.Image.{deterministic}
 use Rattle.regions.specs.Values.{row_of}
-use Rattle.regions.specs.declared.region.Sought.{Sought}
+use Rattle.regions.specs.declared.region.Region.{Region}
 use Rattle.next_steps.specs.declared.stride.Stride as stride_code
 
 -- the rows that are due by a step
@@ -37,9 +37,9 @@ pub record NewBy (T : Table) (rows : List Row) (m : ℕ) (r new : Row) : Type 0 
   pub outside : into_final T m ≡ false
 
 -- one plain step from a row: what is found is new; where nothing is found the row is settled
-pub record Asks (T : Table) (rows : List Row) (n m : ℕ) (r : Row) (entered : Bool) (next : Sought) (entered' : Bool) : Type 0 where
-  pub settled : next.found ≡ false → plain T m ≡ true → Settled T rows entered' m r
-  pub new : next.found ≡ true → NewBy T rows m r (row_of n next.region)
+pub record Asks (T : Table) (rows : List Row) (n m : ℕ) (r : Row) (entered : Bool) (next : Option Region) (entered' : Bool) : Type 0 where
+  pub settled : next ≡ None → plain T m ≡ true → Settled T rows entered' m r
+  pub new : (v : Region) → next ≡ Some v → NewBy T rows m r (row_of n v)
   pub stays : entered ≡ true → entered' ≡ true
   pub enters : entered' ≡ true → (entered ≡ true) ⊎ ((s : Row) × Mem s (due T m r) × (into_final T m ≡ true))
 
@@ -47,9 +47,9 @@ pub record Asks (T : Table) (rows : List Row) (n m : ℕ) (r : Row) (entered : B
 pub record Follows (T : Table) (rows : List Row) (n step : ℕ) (r : Row) (entered : Bool) (q : stride_code.Stride) : Type 0 where
   pub on : step ≤ q.step
   pub settled : (m : ℕ) → step ≤ m → m < q.step → plain T m ≡ true → Settled T rows q.entered m r
-  pub all : q.next.found ≡ false → q.step ≡ suc (length T.edges)
-  pub new : q.next.found ≡ true → NewBy T rows q.step r (row_of n q.next.region)
-  pub none_from : q.from.found ≡ false
+  pub all : q.next ≡ None → q.step ≡ suc (length T.edges)
+  pub new : (v : Region) → q.next ≡ Some v → NewBy T rows q.step r (row_of n v)
+  pub none_from : q.from ≡ None
   pub stays : entered ≡ true → q.entered ≡ true
   pub enters : q.entered ≡ true → (entered ≡ true) ⊎ ((m : ℕ) × (m ≤ length T.edges) × (s : Row) × Mem s (due T m r) × (into_final T m ≡ true))
 
@@ -57,6 +57,6 @@ pub record Follows (T : Table) (rows : List Row) (n step : ℕ) (r : Row) (enter
 pub record Walks (T : Table) (rows : List Row) (n step : ℕ) (q : stride_code.Stride) : Type 0 where
   pub on : step ≤ q.step
   pub settled : (m : ℕ) → step ≤ m → m < q.step → plain T m ≡ false → (r : Row) → Mem r rows → every (has rows) (due T m r) ≡ true
-  pub all : q.next.found ≡ false → q.step ≡ suc (length T.edges)
-  pub new : q.next.found ≡ true → (r : Row) × Mem r rows × NewBy T rows q.step r (row_of n q.next.region)
-  pub from : q.from.found ≡ true → Mem (row_of n q.from.region) rows
+  pub all : q.next ≡ None → q.step ≡ suc (length T.edges)
+  pub new : (v : Region) → q.next ≡ Some v → (r : Row) × Mem r rows × NewBy T rows q.step r (row_of n v)
+  pub from : (v : Region) → q.from ≡ Some v → Mem (row_of n v) rows

@@ -1,100 +1,82 @@
 // The plain steps from one row of a list in the making: waiting, and then edge by edge, up to the first by which a new row is found.
+// Bounds of a number stay clauses here: the check finds them at each call, and a type around the number would be opened at each use.
+// What joins two parameters stays a clause here: a type of both would be made anew for each call, and taken apart in it.
 ghost use Rattle.std.specs.Prelude.{◌≡◌, ℕ, suc, ◌≤◌};
 ghost use Rattle.automata.specs.Row.{IsRow};
-ghost use Rattle.automata.specs.Closed.{Ascends};
 ghost use Rattle.regions.specs.Values.{bounds_of, row_of};
 ghost use Rattle.table_files.specs.Admission.{table_of};
 ghost use Rattle.tables.specs.Bounds.{edge_start};
-ghost use Rattle.tables.specs.Values.{Describes};
-ghost use Rattle.listed_rows.specs.Listed.{listed_rows, Listed};
+ghost use Rattle.listed_rows.specs.RegionLists.{all_rows};
 ghost use Rattle.next_steps.specs.Steps.{Follows};
 
 use crate::asking::ask_at;
 use crate::stride::Stride;
+use listed_rows::region_list::RegionList;
 use new_rows::waiting::new_by_waiting;
-use regions::region::{Region, Sought, missing};
+use regions::region::Region;
 use table_records::decode::after_edge;
-use table_records::head::Head;
-use tables::admission::first_edge;
+use tables::reading::first_edge;
+use tables::table::Table;
 
 // The plain steps from one of them on that is an edge.
-fn follow_edges(
-    table: &[u8],
-    head: Head,
-    list: &[u8],
-    count: usize,
-    from: Region,
-    step: u16,
-    here: usize,
-    entered: bool,
-) -> Stride
-    requires describes { Describes table.now head }
-    requires listed { Listed head.clocks list.now count }
-    requires ascends { Ascends (listed_rows head.clocks.count list.now count) }
-    requires row { IsRow (bounds_of head.clocks) (row_of head.clocks.count from) }
-    requires step_bound { step ≤ suc head.edges }
-    requires by_index { (j : ℕ) × (step ≡ suc j) × (here ≡ edge_start head.clocks.count head.locations table.now j) }
-    ensures follows { Follows (table_of table.now) (listed_rows head.clocks.count list.now count) head.clocks.count step (row_of head.clocks.count from) entered result }
-    ensures here { (j : ℕ) → result.step ≡ suc j → result.here ≡ edge_start head.clocks.count head.locations table.now j }
+fn follow_edges(table: &Table, list: &RegionList, row: Region, last: Stride) -> Stride
+    requires clocks { list.now.clocks ≡ table.now.head.clocks }
+    requires row { IsRow (bounds_of list.now.clocks) (row_of list.now.clocks.count row) }
+    requires step_bound { last.step ≤ suc table.now.head.edges }
+    requires by_index { (j : ℕ) × (last.step ≡ suc j) × (last.here ≡ edge_start table.now.head.clocks.count table.now.head.locations table.now.file.now j) }
+    ensures follows { Follows (table_of table.now.file.now) (all_rows list.now) list.now.clocks.count last.step (row_of list.now.clocks.count row) last.entered result }
+    ensures here { (j : ℕ) → result.step ≡ suc j → result.here ≡ edge_start table.now.head.clocks.count table.now.head.locations table.now.file.now j }
 {
-    let mut seen = entered;
-    let mut at = here;
-    let end = head.edges + 1;
-    for k in step..end {
-        let asked = ask_at(table, head, list, count, at, from, seen);
-        seen = asked.entered;
-        if asked.next.found {
+    let mut here = last.here;
+    let mut entered = last.entered;
+    let end = table.head.edges + 1;
+    for step in last.step..end {
+        let asked = ask_at(table, list, here, row, entered);
+        entered = asked.entered;
+        if asked.next.is_some() {
             return Stride {
                 next: asked.next,
-                step: k,
-                here: at,
-                entered: seen,
-                from: missing(),
+                step,
+                here,
+                entered,
+                from: None,
             };
         }
-        at = after_edge(table, at, head.clocks.count);
+        here = after_edge(table.file, here, table.head.clocks.count);
     }
     Stride {
-        next: missing(),
+        next: None,
         step: end,
-        here: at,
-        entered: seen,
-        from: missing(),
+        here,
+        entered,
+        from: None,
     }
 }
 
-// The plain steps from a step on.
-pub fn follow_row(
-    table: &[u8],
-    head: Head,
-    list: &[u8],
-    count: usize,
-    from: Region,
-    step: u16,
-    here: usize,
-    entered: bool,
-) -> Stride
-    requires describes { Describes table.now head }
-    requires listed { Listed head.clocks list.now count }
-    requires ascends { Ascends (listed_rows head.clocks.count list.now count) }
-    requires row { IsRow (bounds_of head.clocks) (row_of head.clocks.count from) }
-    requires step_bound { step ≤ suc head.edges }
-    requires by_index { (j : ℕ) → step ≡ suc j → here ≡ edge_start head.clocks.count head.locations table.now j }
-    ensures follows { Follows (table_of table.now) (listed_rows head.clocks.count list.now count) head.clocks.count step (row_of head.clocks.count from) entered result }
-    ensures here { (j : ℕ) → result.step ≡ suc j → result.here ≡ edge_start head.clocks.count head.locations table.now j }
+// The plain steps from a row, from the last stride on.
+pub fn follow_row(table: &Table, list: &RegionList, row: Region, last: Stride) -> Stride
+    requires clocks { list.now.clocks ≡ table.now.head.clocks }
+    requires row { IsRow (bounds_of list.now.clocks) (row_of list.now.clocks.count row) }
+    requires step_bound { last.step ≤ suc table.now.head.edges }
+    requires by_index { (j : ℕ) → last.step ≡ suc j → last.here ≡ edge_start table.now.head.clocks.count table.now.head.locations table.now.file.now j }
+    ensures follows { Follows (table_of table.now.file.now) (all_rows list.now) list.now.clocks.count last.step (row_of list.now.clocks.count row) last.entered result }
+    ensures here { (j : ℕ) → result.step ≡ suc j → result.here ≡ edge_start table.now.head.clocks.count table.now.head.locations table.now.file.now j }
 {
-    if step != 0 {
-        return follow_edges(table, head, list, count, from, step, here, entered);
+    if last.step != 0 {
+        return follow_edges(table, list, row, last);
     }
-    let next = new_by_waiting(list, head.clocks, count, from, 2 * count);
-    if next.found {
+    let next = new_by_waiting(list, row, 2 * list.count);
+    if next.is_some() {
         return Stride {
             next,
-            step: 0,
-            here,
-            entered,
-            from: missing(),
+            from: None,
+            ..last
         };
     }
-    follow_edges(table, head, list, count, from, 1, first_edge(head), entered)
+    let waited = Stride {
+        step: 1,
+        here: first_edge(table.head),
+        ..last
+    };
+    follow_edges(table, list, row, waited)
 }

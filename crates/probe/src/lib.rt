@@ -5,7 +5,7 @@ ghost use Rattle.std.specs.Prelude.{◌≡◌};
 ghost use Rattle.calls.specs.Follow.{follow_answer, follow_buffer};
 ghost use Rattle.probe.specs.Number.{number_of};
 
-use following::follow::{Followed, follow};
+use following::follow::follow;
 
 // The count of rows written; or 2^63 plus the refusal's number times 65,536 plus its place.
 #[unsafe(no_mangle)]
@@ -14,9 +14,9 @@ pub extern "C" fn tzelmaruf_follow(table: &[u8], row: &[u8], number: u16, buffer
     ensures buffer { buffer.new ≡ follow_buffer table.now row.now number buffer.old }
 {
     match follow(table, row, number, buffer) {
-        Followed::Written(count) => count as u64,
-        Followed::Refused(number, place) => 9223372036854775808
-            + (number as u64) * 65536
-            + (place as u64),
+        Ok(count) => count as u64,
+        Err(refusal) => 9223372036854775808
+            + (refusal.fault.number() as u64) * 65536
+            + (refusal.place as u64),
     }
 }

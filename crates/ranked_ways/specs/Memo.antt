@@ -6,7 +6,7 @@ use Rattle.automata.specs.Clocks.{at, allb, greatest, one_if}
 use Rattle.regions.specs.Placing.{still, greedy_at}
 use Rattle.regions.specs.declared.clock_move.Move.{Move}
 use Rattle.rankings.specs.Ranking.{pattern}
-use Rattle.edge_walk.specs.declared.choice.Search.{Search}
+use Rattle.edge_walk.specs.declared.search.Search.{Search}
 use Rattle.rankings.specs.Table.{table}
 
 -- the clocks of rank a fit at position p, where those that pass the test f go by the parts and the others fit everywhere

@@ -1,4 +1,5 @@
 // Which rankings of the same intervals an edge's moves allow: each is worked out once, and remembered.
+// Bounds of a number stay clauses here: the check finds them at each call, and a type around the number would be opened at each use.
 ghost use Rattle.std.specs.Prelude.{◌≡◌, true, false, ◌+◌, ◌≤◌, ◌<◌, length};
 ghost use Rattle.automata.specs.Clocks.{at, one_if};
 ghost use Rattle.regions.specs.Placing.{placed_at};

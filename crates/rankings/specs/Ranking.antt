@@ -4,7 +4,7 @@ use Rattle.automata.specs.Clocks.{at}
 use Rattle.automata.specs.Row.{Row}
 use Rattle.automata.specs.Rows.{openb, isrowb, select, rank_lists}
 use Rattle.regions.specs.Values.{bounds_of, row_of}
-use Rattle.regions.specs.declared.region.Clocks.{Clocks}
+use Rattle.regions.specs.declared.clocks.Clocks.{Clocks}
 use Rattle.regions.specs.declared.region.Region.{Region}
 use Rattle.rankings.specs.Table.{starts}
 

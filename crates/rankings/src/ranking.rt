@@ -1,11 +1,15 @@
 // The rankings of the clocks with open intervals, by number: read from a table, so that none has to be searched for.
+// Bounds of a number stay clauses here: the check finds them at each call, and a type around the number would be opened at each use.
+// What joins two parameters stays a clause here: a type of both would be made anew for each call, and taken apart in it.
 ghost use Rattle.std.specs.Prelude.{ℕ, Bool, ◌≡◌, cond, [], ◌+◌, ◌≤◌, ◌<◌, length, get_or, take};
-ghost use Rattle.regions.specs.Values.{Few, row_of, padded};
+ghost use Rattle.regions.specs.Values.{row_of, padded};
 ghost use Rattle.automata.specs.Clocks.{at};
 ghost use Rattle.rankings.specs.Table.{starts, table};
 ghost use Rattle.rankings.specs.Ranking.{rows_ranked, InRange, weight, pattern, pattern_of, first_ranking};
 
-use regions::region::{Clocks, Region, is_open};
+use crate::table::Rankings;
+use regions::clocks::Clocks;
+use regions::region::{Region, is_open};
 
 // Each choice of open clocks among four has a number, the sum of these.
 const WEIGHTS: [usize; 4] = [1, 2, 4, 8];
@@ -181,10 +185,8 @@ fn start_of(pattern: usize) -> usize
 
 // The whole table, for who reads many rankings: it is made once, and lent for each of them.
 #[tactic(auto, unfolding(crate::specs::Table::table))]
-pub fn all_rankings() -> [[u8; 4]; 150]
-    ensures { result ≡ table }
-{
-    RANKINGS
+pub fn all_rankings() -> Rankings {
+    Rankings { each: RANKINGS }
 }
 
 // What a clock adds to the number of a choice of open clocks.
@@ -210,7 +212,6 @@ pub fn pattern_where<F: Fn(usize) -> bool>(n: usize, passes: F) -> usize
 
 // The number of the choice of open clocks that a part has.
 fn open_pattern(clocks: Clocks, part: Region) -> usize
-    requires { Few clocks }
     ensures value { result ≡ pattern_of clocks part }
     ensures low { result < 16 }
 {
@@ -222,7 +223,6 @@ fn open_pattern(clocks: Clocks, part: Region) -> usize
 
 // How many regions have the location and the intervals of the part.
 pub fn rankings_of(clocks: Clocks, part: Region) -> usize
-    requires few { Few clocks }
     requires in_range { InRange clocks part }
     ensures { result ≡ length (rows_ranked clocks part) }
 {
@@ -232,7 +232,6 @@ pub fn rankings_of(clocks: Clocks, part: Region) -> usize
 
 // Where the rankings of the part's open clocks begin in the table: the same for all of them.
 pub fn first_ranking(clocks: Clocks, part: Region) -> usize
-    requires { Few clocks }
     ensures { result ≡ first_ranking clocks part }
 {
     start_of(open_pattern(clocks, part))
@@ -241,14 +240,12 @@ pub fn first_ranking(clocks: Clocks, part: Region) -> usize
 // Region j of those that have the location and the intervals of the part, ascending, where it is known at which of the table's rows they begin.
 #[tactic(auto, using(crate::proofs::Laws::Ranking::zeros_after, crate::proofs::Laws::Ranking::row_at))]
 pub fn ranked_from(
-    rankings: &[[u8; 4]],
+    rankings: &Rankings,
     clocks: Clocks,
     part: Region,
     first: usize,
     j: usize,
 ) -> Region
-    requires rankings_value { rankings.now ≡ table }
-    requires few { Few clocks }
     requires in_range { InRange clocks part }
     requires first_value { first ≡ first_ranking clocks part }
     requires j_in_bounds { j < length (rows_ranked clocks part) }
@@ -259,14 +256,13 @@ pub fn ranked_from(
     ensures table { result.ranks ≡ get_or table (first + j) [] }
 {
     Region {
-        ranks: rankings[first + j],
+        ranks: rankings.each[first + j],
         ..part
     }
 }
 
 // Region j of those that have the location and the intervals of the part, ascending.
 pub fn ranked(clocks: Clocks, part: Region, j: usize) -> Region
-    requires few { Few clocks }
     requires in_range { InRange clocks part }
     requires j_in_bounds { j < length (rows_ranked clocks part) }
     ensures row { row_of clocks.count result ≡ get_or (rows_ranked clocks part) j (row_of clocks.count part) }

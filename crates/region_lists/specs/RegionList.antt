@@ -1,13 +1,15 @@
 -- What the passes over a region list give. Assumes nothing.
-use Rattle.std.specs.Prelude.{ℕ, zero, suc, ◌<◌, ◌≡◌}
+use Rattle.std.specs.Prelude.{ℕ, ◌≡◌, List, Result, Ok, Err}
 use Rattle.table_files.specs.Reading.{Read, good, bad, Reader, done}
+use Rattle.table_records.specs.Refusal.{number_of}
+use Rattle.table_records.specs.declared.refusal.Refusal.{Refusal}
 
--- number 0 where a reading succeeds, else the number and the place of its refusal
-abbrev pub Told : {A : Type 0} → Read A → ℕ → ℕ → Type 0
-Told (good a rest) number place = number ≡ 0
-Told (bad n p) number place = (0 < n) × (number ≡ n) × (place ≡ p)
+-- a reading succeeds; or it is refused, with this fault's number at this place
+abbrev pub Told : {A B : Type 0} → Read A → Result B Refusal → Type 0
+Told {A} r (Ok b) = (a : A) × (rest : List ℕ) × (r ≡ good a rest)
+Told r (Err e) = r ≡ bad (number_of e.fault) e.place
 
--- a pass over the rows: place 0 where all of them pass, else this refusal at the place of the first that does not
-abbrev pub passed : ℕ → ℕ → Reader (Unit {0})
-passed number zero = done tt
-passed number (suc place) = λ file. bad number (suc place)
+-- a pass over the rows: all of them pass; or this fault's number, at the place of the first that does not
+abbrev pub passed : Result (Unit {0}) Refusal → Reader (Unit {0})
+passed (Ok u) = done tt
+passed (Err e) = λ file. bad (number_of e.fault) e.place

@@ -4,13 +4,13 @@ use Rattle.std.proofs.Math.Option.{Option, none, some}
 use Rattle.automata.specs.Clocks.{at}
 use Rattle.automata.specs.Row.{Row}
 use Rattle.automata.specs.Edge.{Guard, Action, keep, constant, clock, Update, Edge}
-use Rattle.regions.specs.declared.region.Clocks as clocks_code
+use Rattle.regions.specs.declared.clocks.Clocks as clocks_code
 use Rattle.regions.specs.declared.region.Region.{Region}
-use Rattle.regions.specs.declared.region.Sought.{Sought}
 use Rattle.regions.specs.declared.edge.Guard as guard_code
 use Rattle.regions.specs.declared.edge.Action as action_code
 use Rattle.regions.specs.declared.edge.Update as update_code
 use Rattle.regions.specs.declared.edge.Edge as edge_code
+use Rattle.std.specs.declared.option.Option as option_code
 
 -- clocks ------------------------------------------------------------------------------------------------------------------------
 
@@ -38,17 +38,14 @@ abbrev pub region_of : Row → Region
 region_of r = record { location = r.location; intervals = padded r.intervals; ranks = padded r.ranks }
 
 -- a row, or none
-abbrev pub sought : Option Row → Sought
-sought none = record { found = false; region = region_of (record { location = 0; intervals = []; ranks = [] }) }
-sought (some r) = record { found = true; region = region_of r }
+abbrev pub sought : Option Row → option_code.Option Region
+sought none = option_code.TheVariants.None
+sought (some r) = option_code.TheVariants.Some (region_of r)
 
 -- the row that was found, or none
-abbrev pub found_of : ℕ → Sought → Option Row
-found_of n s = by s.found
-  where
-    by : Bool → Option Row
-    by true = some (row_of n s.region)
-    by false = none
+abbrev pub found_of : ℕ → option_code.Option Region → Option Row
+found_of n option_code.TheVariants.None = none
+found_of n (option_code.TheVariants.Some r) = some (row_of n r)
 
 -- edges -------------------------------------------------------------------------------------------------------------------------
 

@@ -1,8 +1,12 @@
 // The six comparisons: one table, which guards, run values, region moves and the order of rows all ask.
+// Comparisons stay numbers: a byte of a file is known to name one only where admission's test of it is, so an enum would need a made-up case, or a fact
+// for each guard and update.
 ghost use Rattle.std.specs.Prelude.{◌≡◌, cond, ltb};
 ghost use Rattle.automata.specs.Comparison.{comparisons, below, above, place, answer, holds, at_alone};
-ghost use Prim.Native.Nat.{Ordering};
+ghost use Prim.Native.Nat.{Ordering as ordering};
 ghost use Prim.Native.Nat.{compare};
+
+use std::cmp::Ordering;
 
 // Rows: 0 <, 1 ≤, 2 =, 3 ≥, 4 >, 5 ≠. Columns: the answer for below, at and above.
 const COMPARISONS: usize = 6;
@@ -25,13 +29,11 @@ pub const BELOW: u8 = 0;
 pub const ABOVE: u8 = 4;
 
 // The comparison that allows one side alone.
+// `up` is a bit of a choice, as the definition has it: it chooses a value, not a step.
 pub fn one_side(up: bool) -> u8
     ensures { result ≡ cond up above below }
 {
-    if up {
-        return ABOVE;
-    }
-    BELOW
+    if up { ABOVE } else { BELOW }
 }
 
 // Whether a number names a comparison.
@@ -45,13 +47,11 @@ pub fn is_comparison(number: u8) -> bool
 fn side(x: u64, y: u64) -> usize
     ensures { result ≡ place (compare x y) }
 {
-    if x < y {
-        return 0;
+    match x.cmp(&y) {
+        Ordering::Less => 0,
+        Ordering::Equal => 1,
+        Ordering::Greater => 2,
     }
-    if x == y {
-        return 1;
-    }
-    2
 }
 
 // Whether x stands in the comparison to y. A number that names no comparison answers no.
@@ -59,11 +59,7 @@ pub fn holds(comparison: u8, x: u64, y: u64) -> bool
     ensures { result ≡ holds comparison x y }
 {
     let row = comparison as usize;
-    if COMPARISONS <= row {
-        return false;
-    }
-    let column = side(x, y);
-    ANSWERS[row][column]
+    row < COMPARISONS && ANSWERS[row][side(x, y)]
 }
 
 // What a comparison answers for below, at and above.
@@ -76,9 +72,9 @@ pub struct Answers {
 
 // The row of a comparison: three answers by one look at the table. A number that names no comparison answers no.
 pub fn answers_of(comparison: u8) -> Answers
-    ensures below { result.below ≡ answer comparison Ordering.lt }
-    ensures at { result.at ≡ answer comparison Ordering.eq }
-    ensures above { result.above ≡ answer comparison Ordering.gt }
+    ensures below { result.below ≡ answer comparison ordering.lt }
+    ensures at { result.at ≡ answer comparison ordering.eq }
+    ensures above { result.above ≡ answer comparison ordering.gt }
 {
     let row = comparison as usize;
     if COMPARISONS <= row {
@@ -101,11 +97,5 @@ pub fn is_at_alone(comparison: u8) -> bool
     ensures { result ≡ at_alone comparison }
 {
     let answers = answers_of(comparison);
-    if answers.below {
-        return false;
-    }
-    if answers.above {
-        return false;
-    }
-    answers.at
+    answers.at && !answers.below && !answers.above
 }

@@ -1,4 +1,6 @@
 // Edges by value: guards and updates.
+// A comparison stays a number (`comparison.rt` says why).
+ghost use Rattle.std.specs.Prelude.{◌≤◌};
 
 // A clock against a constant.
 #[derive(Clone, Copy)]
@@ -29,7 +31,9 @@ pub struct Update {
 pub struct Edge {
     pub source: u8,
     pub target: u8,
+    // beside its array: an edge is copied, and takes no heap
     pub guard_count: u8,
     pub guards: [Guard; 8],
     pub updates: [Update; 4],
+    ghost few_guards: { guard_count ≤ 8 },
 }

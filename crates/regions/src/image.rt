@@ -1,17 +1,20 @@
 // The next region by a deterministic edge, one whose updates ask for one value each: computed clock by clock, with no search.
+// Bounds of a number stay clauses here: the check finds them at each call, and a type around the number would be opened at each use.
+// What joins two parameters stays a clause here: a type of both would be made anew for each call, and taken apart in it.
 ghost use Rattle.std.specs.Prelude.{◌≡◌, true, ℕ, ◌+◌, ◌≤◌, ◌<◌};
-ghost use Rattle.automata.specs.Clocks.{at, one_if, count};
+ghost use Rattle.automata.specs.Clocks.{at, count};
 ghost use Rattle.automata.specs.Row.{IsRow};
 ghost use Rattle.automata.specs.Rankings.{usedb};
 ghost use Rattle.automata.specs.Edge.{Bounded};
 ghost use Rattle.automata.specs.Successors.{guardsb, held, edge_rows};
-ghost use Rattle.regions.specs.Values.{Few, bounds_of, row_of, padded, sought, found_of, update_of, edge_of};
+ghost use Rattle.regions.specs.Values.{bounds_of, row_of, padded, sought, found_of, update_of, edge_of};
 ghost use Rattle.regions.specs.Image.{settledb, deterministic, moved_interval, moved_rank, moved, marked, dense};
 
 use crate::clock_move::Move;
+use crate::clocks::Clocks;
 use crate::comparison;
 use crate::edge::{Action, Edge, Update};
-use crate::region::{Clocks, Region, Sought, missing};
+use crate::region::Region;
 
 // Edges with one next region at most ---------------------------------------------------------------------------------------------
 
@@ -19,8 +22,7 @@ use crate::region::{Clocks, Region, Sought, missing};
 fn is_settled(update: Update) -> bool
     ensures { result ≡ settledb (update_of update) }
 {
-    let action = update.action;
-    match action {
+    match update.action {
         Action::Keep => true,
         Action::Constant(_) => comparison::is_at_alone(update.comparison),
         Action::Clock(_, _, _) => comparison::is_at_alone(update.comparison),
@@ -28,20 +30,11 @@ fn is_settled(update: Update) -> bool
 }
 
 // Whether the updates of all clocks do. Then the edge leads from a region to one region at most.
-pub fn is_deterministic(clocks: Clocks, e: Edge) -> bool
-    requires { clocks.count ≤ 4 }
-    ensures { result ≡ deterministic clocks.count (edge_of clocks.count e) }
+pub fn is_deterministic(n: usize, e: Edge) -> bool
+    requires { n ≤ 4 }
+    ensures { result ≡ deterministic n (edge_of n e) }
 {
-    let n = clocks.count as usize;
-    let mut z = 0;
-    while z < n {
-        let update = e.updates[z];
-        if !is_settled(update) {
-            return false;
-        }
-        z += 1;
-    }
-    true
+    (0..n).all(|z| is_settled(e.updates[z]))
 }
 
 // One clock --------------------------------------------------------------------------------------------------------------------------
@@ -52,11 +45,7 @@ impl Move {
         requires { self.shift ≤ self.reference }
         ensures { result ≡ moved_interval self }
     {
-        let interval = self.reference - self.shift;
-        if interval < self.top as u32 {
-            return interval as u16;
-        }
-        self.top
+        (self.reference - self.shift).min((self.top as u32)) as u16
     }
 
     // The old rank of the new fractional part, which is the old clock's: a whole offset leaves it. 0 where the new interval is not open.
@@ -64,13 +53,11 @@ impl Move {
         requires { interval ≡ moved_interval self }
         ensures { result ≡ moved_rank self }
     {
-        if self.top <= interval {
-            return 0;
+        if interval < self.top && interval % 2 == 1 {
+            self.rank
+        } else {
+            0
         }
-        if interval % 2 != 1 {
-            return 0;
-        }
-        self.rank
     }
 }
 
@@ -83,24 +70,10 @@ fn used_ranks(ranks: [u8; 4], clocks: usize) -> [bool; 5]
     ensures { (a : ℕ) → a < 5 → marked result a ≡ usedb ranks clocks a }
 {
     let mut used = [false; 5];
-    let mut z = 0;
-    while z < clocks {
-        let rank = ranks[z] as usize;
-        used[rank] = true;
-        z += 1;
+    for z in 0..clocks {
+        used[ranks[z] as usize] = true;
     }
     used
-}
-
-// One more, where the rank is used.
-fn counted(total: u8, used: bool) -> u8
-    requires { total ≤ 4 }
-    ensures { result ≡ total + one_if used }
-{
-    if used {
-        return total + 1;
-    }
-    total
 }
 
 // For each rank how many of those from 1 up to it are used.
@@ -109,10 +82,8 @@ fn new_ranks(used: [bool; 5]) -> [u8; 5]
 {
     let mut counts = [0; 5];
     let mut total = 0;
-    let mut rank = 0;
-    while rank < 4 {
-        rank += 1;
-        total = counted(total, used[rank]);
+    for rank in 1..5 {
+        total += u8::from(used[rank]);
         counts[rank] = total;
     }
     counts
@@ -126,11 +97,8 @@ fn dense_ranks(ranks: [u8; 4], clocks: usize) -> [u8; 4]
 {
     let counts = new_ranks(used_ranks(ranks, clocks));
     let mut dense = [0; 4];
-    let mut z = 0;
-    while z < clocks {
-        let rank = ranks[z] as usize;
-        dense[z] = counts[rank];
-        z += 1;
+    for z in 0..clocks {
+        dense[z] = counts[ranks[z] as usize];
     }
     dense
 }
@@ -139,39 +107,31 @@ fn dense_ranks(ranks: [u8; 4], clocks: usize) -> [u8; 4]
 
 impl Region {
     // The new intervals, and beside them the old ranks of the new parts, some of which can be missing; none if a value would be below 0.
-    fn moved(self, clocks: Clocks, e: Edge) -> Sought
-        requires few { Few clocks }
+    fn moved(self, clocks: Clocks, e: Edge) -> Option<Region>
         requires bounded { Bounded (bounds_of clocks) (edge_of clocks.count e) }
         ensures { result ≡ sought (moved (bounds_of clocks) (edge_of clocks.count e) (row_of clocks.count self)) }
     {
         let n = clocks.count as usize;
         let mut intervals = [0; 4];
         let mut ranks = [0; 4];
-        let mut z = 0;
-        while z < n {
-            let update = e.updates[z];
-            let asked = self.clock_move(clocks, z, update);
+        for z in 0..n {
+            let asked = self.clock_move(clocks, z, e.updates[z]);
             if asked.reference < asked.shift {
-                return missing();
+                return None;
             }
             let interval = asked.moved_interval();
             intervals[z] = interval;
             ranks[z] = asked.moved_rank(interval);
-            z += 1;
         }
-        Sought {
-            found: true,
-            region: Region {
-                location: e.target,
-                intervals: intervals,
-                ranks: ranks,
-            },
-        }
+        Some(Region {
+            location: e.target,
+            intervals,
+            ranks,
+        })
     }
 
     // The only region that a deterministic edge leads to from this one, where its guards hold; or none.
-    pub fn image(self, clocks: Clocks, e: Edge) -> Sought
-        requires few { Few clocks }
+    pub fn image(self, clocks: Clocks, e: Edge) -> Option<Region>
         requires row { IsRow (bounds_of clocks) (row_of clocks.count self) }
         requires bounded { Bounded (bounds_of clocks) (edge_of clocks.count e) }
         requires e_value { deterministic clocks.count (edge_of clocks.count e) ≡ true }
@@ -179,21 +139,8 @@ impl Region {
         requires e_value_2 { guardsb (row_of clocks.count self) (edge_of clocks.count e).guards ≡ true }
         ensures { edge_rows (bounds_of clocks) (edge_of clocks.count e) (row_of clocks.count self) ≡ held (found_of clocks.count result) }
     {
-        let landed = self.moved(clocks, e);
-        if !landed.found {
-            return landed;
-        }
-        let region = landed.region;
-        let intervals = region.intervals;
-        let old_ranks = region.ranks;
-        let ranks = dense_ranks(old_ranks, clocks.count as usize);
-        Sought {
-            found: true,
-            region: Region {
-                location: region.location,
-                intervals: intervals,
-                ranks: ranks,
-            },
-        }
+        let landed = self.moved(clocks, e)?;
+        let ranks = dense_ranks(landed.ranks, clocks.count as usize);
+        Some(Region { ranks, ..landed })
     }
 }

@@ -2,7 +2,8 @@
 #![tactic(auto)]
 
 pub mod comparison; // the table of comparisons
-pub mod region; // a region, the clocks' bounds
+pub mod clocks; // the clocks and their bounds
+pub mod region; // a region
 pub mod room; // how many ranks there can be
 pub mod edge; // guards, updates, edges
 pub mod guard; // guards in a region

@@ -1,4 +1,5 @@
 // Row records, by value.
+// Bounds of a number stay clauses here: the check finds them at each call, and a type around the number would be opened at each use.
 ghost use Rattle.std.specs.Prelude.{◌≡◌, cond, ℕ, ◌+◌, ◌*◌, ◌≤◌, List, length, ltb};
 ghost use Rattle.automata.specs.Clocks.{at, each};
 ghost use Rattle.automata.specs.Closed.{first_row};
@@ -8,16 +9,12 @@ ghost use Rattle.tables.specs.Values.{Describes};
 ghost use Rattle.calls.specs.RegionFile.{row_in, row_width};
 ghost use Rattle.rows.specs.Row.{ReadsRow, byte_from};
 
-use regions::region::{Clocks, Region};
+use regions::clocks::Clocks;
+use regions::region::Region;
 use table_records::head::Head;
 use table_records::record::record;
-
-// A row record's refusal number and its region; number 0 is a row of the table.
-#[derive(Clone, Copy)]
-pub struct RowRead {
-    pub number: u8,
-    pub region: Region,
-}
+use table_records::refusal::Fault;
+use tables::table::Table;
 
 // A byte as one of a region's numbers.
 pub fn wide(x: u8) -> u16
@@ -31,10 +28,7 @@ fn byte_of(bytes: &[u8], at: usize, n: usize, z: usize) -> u8
     requires { at + n ≤ length bytes.now }
     ensures { result ≡ cond (ltb z n) (byte_from bytes.now at z) 0 }
 {
-    if z < n {
-        return bytes[at + z];
-    }
-    0
+    if z < n { bytes[at + z] } else { 0 }
 }
 
 // The n bytes from at on as intervals, zeros after them.
@@ -42,11 +36,12 @@ fn intervals_in(bytes: &[u8], at: usize, n: usize) -> [u16; 4]
     requires { (n ≤ 4) × (at + n ≤ length bytes.now) }
     ensures { result ≡ padded (each n (byte_from bytes.now at)) }
 {
-    let first = wide(byte_of(bytes, at, n, 0));
-    let second = wide(byte_of(bytes, at, n, 1));
-    let third = wide(byte_of(bytes, at, n, 2));
-    let fourth = wide(byte_of(bytes, at, n, 3));
-    [first, second, third, fourth]
+    [
+        wide(byte_of(bytes, at, n, 0)),
+        wide(byte_of(bytes, at, n, 1)),
+        wide(byte_of(bytes, at, n, 2)),
+        wide(byte_of(bytes, at, n, 3)),
+    ]
 }
 
 // The n bytes from at on as ranks, zeros after them.
@@ -54,11 +49,12 @@ fn ranks_in(bytes: &[u8], at: usize, n: usize) -> [u8; 4]
     requires { (n ≤ 4) × (at + n ≤ length bytes.now) }
     ensures { result ≡ padded (each n (byte_from bytes.now at)) }
 {
-    let first = byte_of(bytes, at, n, 0);
-    let second = byte_of(bytes, at, n, 1);
-    let third = byte_of(bytes, at, n, 2);
-    let fourth = byte_of(bytes, at, n, 3);
-    [first, second, third, fourth]
+    [
+        byte_of(bytes, at, n, 0),
+        byte_of(bytes, at, n, 1),
+        byte_of(bytes, at, n, 2),
+        byte_of(bytes, at, n, 3),
+    ]
 }
 
 // The bytes of a row record of n clocks.
@@ -74,12 +70,10 @@ pub fn region_in(bytes: &[u8], n: usize) -> Region
     requires { (n ≤ 4) × (row_width n ≤ length bytes.now) }
     ensures { result ≡ region_of (row_in n bytes.now) }
 {
-    let intervals = intervals_in(bytes, 3, n);
-    let ranks = ranks_in(bytes, 3 + n, n);
     Region {
         location: bytes[2],
-        intervals: intervals,
-        ranks: ranks,
+        intervals: intervals_in(bytes, 3, n),
+        ranks: ranks_in(bytes, 3 + n, n),
     }
 }
 
@@ -94,36 +88,23 @@ pub fn initial_row(head: Head) -> Region
     }
 }
 
-// The row record at a position of a file: its region, or refusal 7 or 8. What region stands beside a refusal says nothing.
-pub fn read_row(file: &[u8], at: usize, table: &[u8], head: Head) -> RowRead
-    requires { Describes table.now head }
-    ensures { ReadsRow (table_of table.now) file.now at result }
+// The region of the row record at a position of a file; or refusal 7 or 8.
+pub fn read_row(file: &[u8], at: usize, table: &Table) -> Result<Region, Fault>
+    ensures { ReadsRow (table_of table.now.file.now) file.now at result }
 {
-    let clocks = head.clocks;
-    let n = clocks.count as usize;
+    let head = table.head;
+    let n = head.clocks.count as usize;
     let bytes = record(file, at, row_width(n), *b"RW");
-    if bytes.len() == 0 {
-        let region = initial_row(head);
-        return RowRead {
-            number: 7,
-            region: region,
-        };
+    if bytes.is_empty() {
+        return Err(Fault::ListCut);
     }
     let region = region_in(bytes, n);
     if head.locations <= region.location {
-        return RowRead {
-            number: 8,
-            region: region,
-        };
+        return Err(Fault::ListRange);
     }
-    if region.is_region(clocks) {
-        return RowRead {
-            number: 0,
-            region: region,
-        };
-    }
-    RowRead {
-        number: 8,
-        region: region,
+    if region.is_region(head.clocks) {
+        Ok(region)
+    } else {
+        Err(Fault::ListRange)
     }
 }

@@ -1,4 +1,5 @@
 // The row writer: a region as document 01's row record, written to the front of the lent bytes.
+// Bounds of a number stay clauses here: the check finds them at each call, and a type around the number would be opened at each use.
 ghost use Rattle.std.specs.Prelude.{◌≡◌, [], ◌∷◌, ◌++◌, ℕ, ◌+◌, ◌*◌, ◌≤◌, ◌<◌, length, take, drop};
 ghost use Rattle.automata.specs.Clocks.{at};
 ghost use Rattle.regions.specs.Values.{row_of};
@@ -12,9 +13,7 @@ fn write_start(out: &mut [u8], location: u8)
     requires { 3 ≤ length out.old }
     ensures { out.new ≡ (RW ++ (location ∷ [])) ++ drop 3 out.old }
 {
-    let mark = *b"RW";
-    out[0] = mark[0];
-    out[1] = mark[1];
+    out[..2].copy_from_slice(b"RW");
     out[2] = location;
 }
 
@@ -25,10 +24,9 @@ fn write_intervals(out: &mut [u8], n: usize, intervals: [u16; 4])
     requires by_index { (z : ℕ) → z < n → at intervals z < 256 }
     ensures { out.new ≡ take n intervals ++ drop n out.old }
 {
-    let mut z = 0;
-    while z < n {
+    // one by one: each is narrowed on its way
+    for z in 0..n {
         out[z] = intervals[z] as u8;
-        z += 1;
     }
 }
 
@@ -38,11 +36,7 @@ fn write_ranks(out: &mut [u8], n: usize, ranks: [u8; 4])
     requires n_in_bounds { n ≤ length out.old }
     ensures { out.new ≡ take n ranks ++ drop n out.old }
 {
-    let mut z = 0;
-    while z < n {
-        out[z] = ranks[z];
-        z += 1;
-    }
+    out[..n].copy_from_slice(&ranks[..n]);
 }
 
 // Writes the row record of a region of n clocks: the mark, the location, the intervals, the ranks. Later bytes stay.
@@ -52,9 +46,7 @@ pub fn write_row(out: &mut [u8], n: usize, region: Region)
     requires by_index { (z : ℕ) → z < n → at region.intervals z < 256 }
     ensures { out.new ≡ row_bytes (row_of n region) ++ drop (row_width n) out.old }
 {
-    let intervals = region.intervals;
-    let ranks = region.ranks;
     write_start(out, region.location);
-    write_intervals(&mut out[3..], n, intervals);
-    write_ranks(&mut out[3 + n..], n, ranks);
+    write_intervals(&mut out[3..], n, region.intervals);
+    write_ranks(&mut out[3 + n..], n, region.ranks);
 }

@@ -1,5 +1,5 @@
 -- One step of a run, as the code takes it: what its state stands for, and one step after the steps so far. Assumes nothing.
-use Rattle.std.specs.Prelude.{ℕ, ◌+◌, ◌*◌, ◌≤◌, ◌<◌, Bool, cond, List, [], ◌≡◌, eqb, length, take, get_or}
+use Rattle.std.specs.Prelude.{ℕ, ◌+◌, ◌*◌, ◌≤◌, ◌<◌, Bool, List, [], ◌≡◌, eqb, length, take, get_or, Result, Ok, Err}
 use Rattle.automata.specs.Automaton.{Table, edge}
 use Rattle.automata.specs.Clocks.{at, each}
 use Rattle.automata.specs.Comparison.{holds}
@@ -12,6 +12,8 @@ use Rattle.regions.specs.declared.edge.Guard as guard_code
 use Rattle.regions.specs.declared.edge.Update as update_code
 use Rattle.table_files.specs.Bytes.{two, four}
 use Rattle.table_files.specs.Reading.{Read, good, bad, Reader, carry, ◌>>◌, done, require}
+use Rattle.table_records.specs.Refusal.{number_of}
+use Rattle.table_records.specs.declared.refusal.Refusal.{Refusal}
 use Rattle.calls.specs.RunFile.{guardedb, allowedb}
 use Rattle.run_lists.specs.declared.step.State as state_code
 
@@ -40,12 +42,9 @@ abbrev pub point_of : ℕ → state_code.State → State
 point_of n s = record { location = s.location; values = take n s.values }
 
 -- the state after the steps so far, or the first refusal among them
-abbrev pub state_of : ℕ → state_code.State → Read State
-state_of n s = cond (eqb s.number 0) (good (point_of n s) []) (bad s.number s.place)
-
--- the first of 10, 11 and 12 that applies, or 0
-abbrev pub refusal : Bool → Bool → Bool → ℕ
-refusal leaves guarded allowed = cond leaves (cond guarded (cond allowed 0 12) 11) 10
+abbrev pub state_of : ℕ → Result state_code.State Refusal → Read State
+state_of n (Ok s) = good (point_of n s) []
+state_of n (Err r) = bad (number_of r.fault) r.place
 
 -- one step by an edge, 10 to 12 in this order
 unfoldable pub step_by : Edge → ℕ → ℕ → State → Move → Reader State

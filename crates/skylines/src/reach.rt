@@ -1,13 +1,17 @@
 // How far an edge leads from a row, as numbers: for each clock the lower and the upper end of what its update allows there. Where these lie within those
 // of another row, the edge leads no further from the one than from the other.
+// Bounds of a number stay clauses here: the check finds them at each call, and a type around the number would be opened at each use.
+// What joins two parameters stays a clause here: a type of both would be made anew for each call, and taken apart in it.
+// A comparison stays a number (`comparison.rt` of `regions` says why).
 ghost use Rattle.std.specs.Prelude.{◌≡◌, cond, ◌≤◌, ◌<◌, length};
 ghost use Rattle.automata.specs.Edge.{Bounded, BoundedBy};
-ghost use Rattle.regions.specs.Values.{Few, bounds_of, row_of, action_of, edge_of};
+ghost use Rattle.regions.specs.Values.{bounds_of, row_of, action_of, edge_of};
 ghost use Rattle.skylines.specs.Reach.{underb, overb, place, upb, downb, low_end, high_end, ReachOf, withinb};
 
+use regions::clocks::Clocks;
 use regions::comparison;
 use regions::edge::{Action, Edge};
-use regions::region::{Clocks, Region};
+use regions::region::Region;
 
 // How far an edge leads from a row: the lower and the upper ends of what its updates allow, of which the first ones are the clocks', and the row's number
 // among others.
@@ -77,7 +81,6 @@ fn ends_at(comparison: u8, place: u32) -> Ends
 
 // The ends of what the update of clock z allows from a region.
 fn update_ends(clocks: Clocks, a: Action, comparison: u8, z: usize, from: Region) -> Ends
-    requires count_bound { clocks.count ≤ 4 }
     requires clocks_len { length (bounds_of clocks) ≡ clocks.count }
     requires z_lt_count { z < clocks.count }
     requires bounded_by { BoundedBy (bounds_of clocks) z (action_of a) }
@@ -106,7 +109,6 @@ fn update_ends(clocks: Clocks, a: Action, comparison: u8, z: usize, from: Region
 
 // How far an edge leads from a region that is row i of some.
 pub fn reach_of(clocks: Clocks, e: Edge, from: Region, i: u32) -> Reach
-    requires few { Few clocks }
     requires clocks_len { length (bounds_of clocks) ≡ clocks.count }
     requires bounded { Bounded (bounds_of clocks) (edge_of clocks.count e) }
     ensures { ReachOf (bounds_of clocks) (edge_of clocks.count e) (row_of clocks.count from) i result }

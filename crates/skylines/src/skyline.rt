@@ -1,5 +1,6 @@
 // The skyline of an edge: up to 64 reaches, none of them within another. The edge leads no further from the rows that are covered than from those that
 // are kept, so it need not be walked from them.
+// Bounds of a number stay clauses here: the check finds them at each call, and a type around the number would be opened at each use.
 ghost use Rattle.std.specs.Prelude.{◌≡◌, ◌≤◌};
 ghost use Rattle.skylines.specs.Skyline.{coveredb, Drops, Seats};
 
@@ -9,6 +10,7 @@ use crate::reach::{Reach, is_within};
 #[derive(Drop)]
 pub struct Skyline {
     pub members: [Reach; 64],
+    // beside its array: there is no heap
     pub size: usize,
     ghost few: { size ≤ 64 },
 }

@@ -1,12 +1,13 @@
 -- What the header's code makes of a header. Assumes nothing.
-use Rattle.std.specs.Prelude.{ℕ, ◌+◌, ◌≤◌, ◌<◌, ◌≡◌, Bool, ◌&&◌, List, length, take, drop, leb, ltb}
+use Rattle.std.specs.Prelude.{ℕ, ◌+◌, ◌≤◌, ◌≡◌, Bool, ◌&&◌, List, length, take, drop, leb, ltb, Result, Ok, Err}
 use Rattle.automata.specs.Clocks.{at}
 use Rattle.regions.specs.Values.{bounds_of, Few}
 use Rattle.table_files.specs.Bytes.{two}
 use Rattle.table_files.specs.Reading.{Read, good, bad, between}
 use Rattle.table_files.specs.TableFile.{Header}
 use Rattle.table_records.specs.declared.head.Head.{Head}
-use Rattle.table_records.specs.declared.head.Opened.{Opened}
+use Rattle.table_records.specs.Refusal.{number_of}
+use Rattle.table_records.specs.declared.refusal.Refusal.{Refusal}
 
 -- the fields before the bounds are in range
 unfoldable pub counts_in_range : List ℕ → Bool
@@ -34,8 +35,7 @@ pub record HeadOf (h : Header) (k : Head) : Type 0 where
   pub initial : k.initial ≡ h.initial
   pub edges : k.edges ≡ h.edges
 
--- the header is read, with the bytes after its bounds left; or it is refused
-abbrev pub Headed : List ℕ → Read Header → Opened → Type 0
-Headed file (good h rest) o =
-    (o.number ≡ 0) × HeadOf h o.head × (rest ≡ drop (7 + o.head.clocks.count) file) × (7 + o.head.clocks.count ≤ length file)
-Headed file (bad number place) o = (o.number ≡ number) × (o.place ≡ place) × (0 < number)
+-- the header is read, with the bytes after its bounds left; or it is refused, with this fault's number at this place
+abbrev pub Headed : List ℕ → Read Header → Result Head Refusal → Type 0
+Headed file r (Ok k) = ((h : Header) × HeadOf h k × (r ≡ good h (drop (7 + k.clocks.count) file))) × (7 + k.clocks.count ≤ length file)
+Headed file r (Err e) = r ≡ bad (number_of e.fault) e.place

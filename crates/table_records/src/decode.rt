@@ -1,4 +1,7 @@
 // An edge by value, from the bytes of its record.
+// Bounds of a number stay clauses here: the check finds them at each call, and a type around the number would be opened at each use.
+// What joins two parameters stays a clause here: a type of both would be made anew for each call, and taken apart in it.
+// A comparison stays a number, and a kind as its byte has it until it is decoded (`comparison.rt` of `regions` says why).
 ghost use Rattle.std.specs.Prelude.{◌≡◌, map, ◌+◌, ◌*◌, ◌≤◌, length, take};
 ghost use Rattle.regions.specs.Values.{guard_of, action_of, update_of, edge_of};
 ghost use Rattle.table_files.specs.TableFile.{guard, action, fields, update};
@@ -31,11 +34,8 @@ fn guards_from(bytes: &[u8], count: usize) -> [Guard; 8]
         comparison: 0,
         constant: 0,
     }; 8];
-    let mut i = 0;
-    while i < count {
-        let g = guard_from(bytes, 3 * i);
-        guards[i] = g;
-        i += 1;
+    for i in 0..count {
+        guards[i] = guard_from(bytes, 3 * i);
     }
     guards
 }
@@ -44,13 +44,11 @@ fn guards_from(bytes: &[u8], count: usize) -> [Guard; 8]
 fn action_from(kind: u8, y: u8, offset: u16) -> Action
     ensures { action_of result ≡ action (record { kind = kind; comparison = 0; y = y; offset = offset }) }
 {
-    if kind == 0 {
-        return Action::Keep;
+    match kind {
+        0 => Action::Keep,
+        1 => Action::Constant(offset),
+        _ => Action::Clock(y, up(offset), down(offset)),
     }
-    if kind == 1 {
-        return Action::Constant(offset);
-    }
-    Action::Clock(y, up(offset), down(offset))
 }
 
 // The update from byte at on.
@@ -58,9 +56,8 @@ fn update_from(bytes: &[u8], at: usize) -> Update
     requires { at + 5 ≤ length bytes.now }
     ensures { update_of result ≡ update (fields bytes.now at) }
 {
-    let action = action_from(bytes[at], bytes[at + 2], two_bytes(bytes, at + 3));
     Update {
-        action,
+        action: action_from(bytes[at], bytes[at + 2], two_bytes(bytes, at + 3)),
         comparison: bytes[at + 1],
     }
 }
@@ -75,11 +72,8 @@ fn updates_from(bytes: &[u8], first: usize, clocks: usize) -> [Update; 4]
         action: Action::Keep,
         comparison: 0,
     }; 4];
-    let mut z = 0;
-    while z < clocks {
-        let u = update_from(bytes, first + 5 * z);
-        updates[z] = u;
-        z += 1;
+    for z in 0..clocks {
+        updates[z] = update_from(bytes, first + 5 * z);
     }
     updates
 }
@@ -88,20 +82,17 @@ fn updates_from(bytes: &[u8], first: usize, clocks: usize) -> [Update; 4]
 pub fn edge_from(file: &[u8], at: usize, clocks: u8) -> Edge
     requires stands { Stands clocks file.now at }
     requires clocks_bound { clocks ≤ 4 }
-    ensures means { edge_of clocks result ≡ edge_at clocks file.now at }
-    ensures few { result.guard_count ≤ 8 }
+    ensures { edge_of clocks result ≡ edge_at clocks file.now at }
 {
     let bytes = part(file, at, 5);
     let count = bytes[4];
     let rest = part(file, at + 5, size_of(count, clocks));
-    let guards = guards_from(rest, count as usize);
-    let updates = updates_from(rest, 3 * (count as usize), clocks as usize);
     Edge {
         source: bytes[2],
         target: bytes[3],
         guard_count: count,
-        guards,
-        updates,
+        guards: guards_from(rest, count as usize),
+        updates: updates_from(rest, 3 * (count as usize), clocks as usize),
     }
 }
 

@@ -1,4 +1,6 @@
 // The edge records of a table: their bytes, and whether their fields are in range.
+// What joins two parameters stays a clause here: a type of both would be made anew for each call, and taken apart in it.
+// A comparison stays a number, and a kind as its byte has it until it is decoded (`comparison.rt` of `regions` says why).
 ghost use Rattle.std.specs.Prelude.{◌≡◌, ◌&&◌, ◌+◌, ◌*◌, ◌≤◌, length, drop, eqb, leb, ltb};
 ghost use Rattle.automata.specs.Comparison.{comparisons};
 ghost use Rattle.automata.specs.Checks.{every};
@@ -10,23 +12,18 @@ ghost use Rattle.table_records.specs.Edge.{ends_in_range, size_of, guards_from, 
 
 use crate::head::Head;
 use crate::record::{part, record, two_bytes};
-use crate::scan::{Scan, reached, refused};
+use crate::refusal::{Fault, Refusal};
 use regions::comparison::is_comparison;
 
 const ED: [u8; 2] = *b"ED";
 
 // Whether the fields before the guards are in range: source, target, guard count.
+#[tactic(auto, unfolding(crate::specs::Edge::ends_in_range))]
 fn ends_pass(bytes: &[u8], locations: u8) -> bool
     requires { 5 ≤ length bytes.now }
     ensures { result ≡ ends_in_range locations bytes.now }
 {
-    if locations <= bytes[2] {
-        return false;
-    }
-    if locations <= bytes[3] {
-        return false;
-    }
-    bytes[4] <= 8
+    bytes[2] < locations && bytes[3] < locations && bytes[4] <= 8
 }
 
 // Whether the guard from byte at on is in range.
@@ -34,13 +31,7 @@ fn guard_passes(bytes: &[u8], at: usize, clocks: u8) -> bool
     requires { at + 3 ≤ length bytes.now }
     ensures { result ≡ guard_in_range clocks (guard bytes.now at) }
 {
-    if clocks <= bytes[at] {
-        return false;
-    }
-    if !is_comparison(bytes[at + 1]) {
-        return false;
-    }
-    bytes[at + 2] <= 127
+    bytes[at] < clocks && is_comparison(bytes[at + 1]) && bytes[at + 2] <= 127
 }
 
 // Whether each of the guards is in range.
@@ -48,25 +39,14 @@ fn guards_pass(bytes: &[u8], count: u8, clocks: u8) -> bool
     requires { 3 * count ≤ length bytes.now }
     ensures { result ≡ every (guard_in_range clocks) (guards_from bytes.now count) }
 {
-    let n = count as usize;
-    let mut i = 0;
-    while i < n {
-        if !guard_passes(bytes, 3 * i, clocks) {
-            return false;
-        }
-        i += 1;
-    }
-    true
+    (0..count as usize).all(|i| guard_passes(bytes, 3 * i, clocks))
 }
 
 // What an offset adds.
 pub fn up(offset: u16) -> u16
     ensures { result ≡ up offset }
 {
-    if offset < 32768 {
-        return offset;
-    }
-    0
+    if offset < 32768 { offset } else { 0 }
 }
 
 // What an offset takes away.
@@ -74,51 +54,31 @@ pub fn down(offset: u16) -> u16
     ensures { result ≡ down offset }
 {
     if offset < 32768 {
-        return 0;
+        0
+    } else {
+        65535 - offset + 1
     }
-    65535 - offset + 1
 }
 
 // Whether an update that keeps is in range.
 fn keep_passes(comparison: u8, y: u8, offset: u16) -> bool
     ensures { result ≡ (eqb comparison 0 && eqb y 0 && eqb offset 0) }
 {
-    if comparison != 0 {
-        return false;
-    }
-    if y != 0 {
-        return false;
-    }
-    offset == 0
+    comparison == 0 && y == 0 && offset == 0
 }
 
 // Whether an update to a constant is in range.
 fn constant_passes(comparison: u8, y: u8, offset: u16) -> bool
     ensures { result ≡ (ltb comparison comparisons && eqb y 0 && leb offset 127) }
 {
-    if !is_comparison(comparison) {
-        return false;
-    }
-    if y != 0 {
-        return false;
-    }
-    offset <= 127
+    is_comparison(comparison) && y == 0 && offset <= 127
 }
 
 // Whether an update from a clock is in range.
 fn clock_passes(comparison: u8, y: u8, offset: u16, clocks: u8) -> bool
     ensures { result ≡ (ltb comparison comparisons && ltb y clocks && leb (up offset) 127 && leb (down offset) 127) }
 {
-    if !is_comparison(comparison) {
-        return false;
-    }
-    if clocks <= y {
-        return false;
-    }
-    if 127 < up(offset) {
-        return false;
-    }
-    down(offset) <= 127
+    is_comparison(comparison) && y < clocks && up(offset) <= 127 && down(offset) <= 127
 }
 
 // Whether the update from byte at on is in range.
@@ -126,20 +86,15 @@ fn update_passes(bytes: &[u8], at: usize, clocks: u8) -> bool
     requires { at + 5 ≤ length bytes.now }
     ensures { result ≡ fields_in_range clocks (fields bytes.now at) }
 {
-    let kind = bytes[at];
     let comparison = bytes[at + 1];
     let y = bytes[at + 2];
     let offset = two_bytes(bytes, at + 3);
-    if kind == 0 {
-        return keep_passes(comparison, y, offset);
+    match bytes[at] {
+        0 => keep_passes(comparison, y, offset),
+        1 => constant_passes(comparison, y, offset),
+        2 => clock_passes(comparison, y, offset, clocks),
+        _ => false,
     }
-    if kind == 1 {
-        return constant_passes(comparison, y, offset);
-    }
-    if kind == 2 {
-        return clock_passes(comparison, y, offset, clocks);
-    }
-    false
 }
 
 // Whether each clock's update is in range, where the updates begin at byte first.
@@ -147,15 +102,7 @@ fn updates_pass(bytes: &[u8], first: usize, clocks: u8) -> bool
     requires { first + 5 * clocks ≤ length bytes.now }
     ensures { result ≡ every (fields_in_range clocks) (fields_from bytes.now first clocks) }
 {
-    let n = clocks as usize;
-    let mut z = 0;
-    while z < n {
-        if !update_passes(bytes, first + 5 * z, clocks) {
-            return false;
-        }
-        z += 1;
-    }
-    true
+    (0..clocks as usize).all(|z| update_passes(bytes, first + 5 * z, clocks))
 }
 
 // How many bytes so many guards, and an update for each clock, have.
@@ -165,50 +112,49 @@ pub fn size_of(count: u8, clocks: u8) -> usize
     3 * (count as usize) + 5 * (clocks as usize)
 }
 
-// Reads the edge record from at on: 5 bytes, their fields, and then guards and updates, all together.
-fn edge_record(file: &[u8], at: usize, place: u16, clocks: u8, locations: u8) -> Scan
+// Reads the edge record from at on, 5 bytes, their fields, and then guards and updates, all together, and says where the next one begins.
+fn edge_record(
+    file: &[u8],
+    at: usize,
+    place: u16,
+    clocks: u8,
+    locations: u8,
+) -> Result<usize, Refusal>
     ensures { Scanned file.now (edge_record clocks locations place (drop at file.now)) result }
 {
     let bytes = record(file, at, 5, ED);
     if bytes.len() < 5 {
-        return refused(1, place);
+        return Err(Fault::TableCut.at(place));
     }
     if !ends_pass(bytes, locations) {
-        return refused(3, place);
+        return Err(Fault::TableRange.at(place));
     }
     let count = bytes[4];
     let size = size_of(count, clocks);
     let rest = part(file, at + 5, size);
     if rest.len() < size {
-        return refused(1, place);
+        return Err(Fault::TableCut.at(place));
     }
     if !guards_pass(rest, count, clocks) {
-        return refused(3, place);
+        return Err(Fault::TableRange.at(place));
     }
     if !updates_pass(rest, 3 * (count as usize), clocks) {
-        return refused(3, place);
+        return Err(Fault::TableRange.at(place));
     }
-    reached(at + 5 + size)
+    Ok(at + 5 + size)
 }
 
-// Reads the edge records from at on; the first of them comes after the header and the locations.
-pub fn edges(file: &[u8], at: usize, head: Head) -> Scan
+// Reads the edge records from at on, of which the first comes after the header and the locations, and says where they end.
+pub fn edges(file: &[u8], at: usize, head: Head) -> Result<usize, Refusal>
     requires at_in_bounds { at ≤ length file.now }
     requires edges_bound { head.edges ≤ 256 }
     ensures { Scanned file.now (records (edge_record head.clocks.count head.locations) (1 + head.locations) head.edges (drop at file.now)) result }
 {
     let clocks = head.clocks.count;
-    let locations = head.locations;
+    let first = 1 + (head.locations as u16);
     let mut here = at;
-    let mut place = 1 + (locations as u16);
-    let stop = place + head.edges;
-    while place < stop {
-        let scan = edge_record(file, here, place, clocks, locations);
-        if scan.number != 0 {
-            return scan;
-        }
-        here = scan.at;
-        place += 1;
+    for place in first..first + head.edges {
+        here = edge_record(file, here, place, clocks, head.locations)?;
     }
-    reached(here)
+    Ok(here)
 }

@@ -6,9 +6,10 @@ ghost use Rattle.table_files.specs.TableFile.{header};
 ghost use Rattle.automata.specs.Clocks.{at};
 ghost use Rattle.table_records.specs.Header.{counts_in_range, low, Copied, header_from, HeadOf, Headed};
 
-use crate::head::{Head, Opened, fine, refusal};
+use crate::head::Head;
 use crate::record::{part, record, two_bytes};
-use regions::region::Clocks;
+use crate::refusal::{Fault, Refusal};
+use regions::clocks::Clocks;
 
 const TA: [u8; 2] = *b"TA";
 
@@ -20,34 +21,22 @@ fn within(low: u8, high: u8, x: u8) -> bool
 }
 
 // Whether the fields before the bounds are in range: clocks, locations, an initial location among these, edges.
+#[tactic(auto, unfolding(crate::specs::Header::counts_in_range))]
 fn counts_pass(bytes: &[u8]) -> bool
     requires { 7 ≤ length bytes.now }
     ensures { result ≡ counts_in_range bytes.now }
 {
-    if !within(1, 4, bytes[2]) {
-        return false;
-    }
-    if !within(1, 64, bytes[3]) {
-        return false;
-    }
-    if bytes[3] <= bytes[4] {
-        return false;
-    }
-    two_bytes(bytes, 5) <= 256
+    within(1, 4, bytes[2])
+        && within(1, 64, bytes[3])
+        && bytes[4] < bytes[3]
+        && two_bytes(bytes, 5) <= 256
 }
 
 // Whether each bound is in range.
 fn bounds_pass(bytes: &[u8]) -> bool
     ensures { result ≡ every low bytes.now }
 {
-    let mut z = 0;
-    while z < bytes.len() {
-        if 127 < bytes[z] {
-            return false;
-        }
-        z += 1;
-    }
-    true
+    bytes.iter().all(|bound| *bound <= 127)
 }
 
 // The bounds as an array, with zeros after them.
@@ -56,10 +45,8 @@ fn bounds_of(bytes: &[u8]) -> [u16; 4]
     ensures { Copied bytes.now result }
 {
     let mut bounds = [0u16; 4];
-    let mut z = 0;
-    while z < bytes.len() {
-        bounds[z] = bytes[z] as u16;
-        z += 1;
+    for (z, byte) in bytes.iter().enumerate() {
+        bounds[z] = *byte as u16;
     }
     bounds
 }
@@ -71,13 +58,11 @@ fn head_of(bytes: &[u8], rest: &[u8]) -> Head
     requires rest_len_bound { length rest.now ≤ 4 }
     ensures { HeadOf (header_from bytes.now rest.now) result }
 {
-    let bounds = bounds_of(rest);
-    let clocks = Clocks {
-        count: bytes[2],
-        bounds,
-    };
     Head {
-        clocks,
+        clocks: Clocks {
+            count: bytes[2],
+            bounds: bounds_of(rest),
+        },
         locations: bytes[3],
         initial: bytes[4],
         edges: two_bytes(bytes, 5),
@@ -85,23 +70,23 @@ fn head_of(bytes: &[u8], rest: &[u8]) -> Head
 }
 
 // Reads the header: 7 bytes, their fields, and then the bounds.
-pub fn header(file: &[u8]) -> Opened
+pub fn header(file: &[u8]) -> Result<Head, Refusal>
     ensures { Headed file.now (header file.now) result }
 {
     let bytes = record(file, 0, 7, TA);
     if bytes.len() < 7 {
-        return refusal(1, 0);
+        return Err(Fault::TableCut.at(0));
     }
     if !counts_pass(bytes) {
-        return refusal(2, 0);
+        return Err(Fault::HeaderRange.at(0));
     }
     let n = bytes[2] as usize;
     let rest = part(file, 7, n);
     if rest.len() < n {
-        return refusal(1, 0);
+        return Err(Fault::TableCut.at(0));
     }
     if !bounds_pass(rest) {
-        return refusal(2, 0);
+        return Err(Fault::HeaderRange.at(0));
     }
-    fine(head_of(bytes, rest))
+    Ok(head_of(bytes, rest))
 }

@@ -2,8 +2,8 @@
 #![tactic(auto)]
 
 pub mod record; // the record reader, numbers in bytes
+pub mod refusal; // why a file is refused, and where
 pub mod head; // what a table is read by
-pub mod scan; // how far a reading has come
 pub mod header; // the header
 pub mod location; // location records
 pub mod edge; // edge records

@@ -5,39 +5,32 @@ ghost use Rattle.table_files.specs.TableFile.{location};
 ghost use Rattle.table_records.specs.Scan.{Scanned};
 
 use crate::record::record;
-use crate::scan::{Scan, reached, refused};
+use crate::refusal::{Fault, Refusal};
 
 const LO: [u8; 2] = *b"LO";
 
-// Reads the location record from at on: its bytes, its mark and its flags.
-fn location(file: &[u8], at: usize, place: u16) -> Scan
+// Reads the location record from at on, its bytes, its mark and its flags, and says where the next one begins.
+fn location(file: &[u8], at: usize, place: u16) -> Result<usize, Refusal>
     ensures { Scanned file.now (location place (drop at file.now)) result }
 {
     let bytes = record(file, at, 3, LO);
     if bytes.len() < 3 {
-        return refused(1, place);
+        return Err(Fault::TableCut.at(place));
     }
     if 3 < bytes[2] {
-        return refused(3, place);
+        return Err(Fault::TableRange.at(place));
     }
-    reached(at + 3)
+    Ok(at + 3)
 }
 
-// Reads so many location records from at on, the first of them at place 1.
-pub fn locations(file: &[u8], at: usize, count: u8) -> Scan
+// Reads so many location records from at on, the first of them at place 1, and says where they end.
+pub fn locations(file: &[u8], at: usize, count: u8) -> Result<usize, Refusal>
     requires { at ≤ length file.now }
     ensures { Scanned file.now (records location 1 count (drop at file.now)) result }
 {
-    let stop = (count as u16) + 1;
     let mut here = at;
-    let mut place: u16 = 1;
-    while place < stop {
-        let scan = location(file, here, place);
-        if scan.number != 0 {
-            return scan;
-        }
-        here = scan.at;
-        place += 1;
+    for place in 1..1 + (count as u16) {
+        here = location(file, here, place)?;
     }
-    reached(here)
+    Ok(here)
 }

@@ -5,3 +5,4 @@ pub mod Described
 pub mod Opening
 pub mod Refusals
 pub mod Starts
+pub mod Tables

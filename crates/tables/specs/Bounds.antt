@@ -1,19 +1,26 @@
 -- Which bound rule an edge breaks, and the edges of a table by position. Assumes nothing.
-use Rattle.std.specs.Prelude.{ℕ, ◌+◌, ◌*◌, ◌<◌, Bool, cond, ◌&&◌, List, ◌≡◌, eqb}
+use Rattle.std.specs.Prelude.{ℕ, ◌+◌, ◌*◌, ◌<◌, cond, ◌&&◌, List, [], ◌≡◌, Option, None, Some, Result, Ok, Err}
 use Rattle.automata.specs.Clocks.{at}
-use Rattle.automata.specs.Edge.{Action, Edge}
+use Rattle.automata.specs.Edge.{Edge}
 use Rattle.automata.specs.Checks.{every}
 use Rattle.table_files.specs.Admission.{guard_bounded, constant_bounded, clock_bounded, each_update}
+use Rattle.table_files.specs.Reading.{Read, good, bad}
+use Rattle.table_records.specs.Refusal.{number_of}
+use Rattle.table_records.specs.declared.refusal.Fault.{Fault}
+use Rattle.table_records.specs.declared.refusal.Fault.TheVariants.{ConstantAboveBound, ClockBreaksBound}
+use Rattle.table_records.specs.declared.refusal.Refusal.{Refusal}
 use Rattle.table_records.specs.Edge.{edge_at, after_edge, Stands}
 use Rattle.table_records.specs.Skips.{skip, values, AllAt}
 
--- the bound rule of an update, by its refusal's number
-abbrev pub rule_of : ℕ → List ℕ → ℕ → Action → Bool
-rule_of rule = cond (eqb rule 5) constant_bounded clock_bounded
+-- 5, else 6, if the edge breaks a rule
+unfoldable pub broken_rule : List ℕ → Edge → Option Fault
+broken_rule c e =
+    cond (every (guard_bounded c) e.guards && each_update constant_bounded c e) (cond (each_update clock_bounded c e) None (Some ClockBreaksBound)) (Some ConstantAboveBound)
 
--- 5, else 6, or 0 for none
-unfoldable pub broken_rule : List ℕ → Edge → ℕ
-broken_rule c e = cond (every (guard_bounded c) e.guards && each_update constant_bounded c e) (cond (each_update clock_bounded c e) 0 6) 5
+-- the rules are kept; or they are broken, with this fault's number at this place
+abbrev pub RulesKept : Read (Unit {0}) → Result (Unit {0}) Refusal → Type 0
+RulesKept r (Ok v) = r ≡ good tt []
+RulesKept r (Err e) = r ≡ bad (number_of e.fault) e.place
 
 -- the m edges whose records stand from p on
 abbrev pub edges_at : ℕ → List ℕ → ℕ → ℕ → List Edge

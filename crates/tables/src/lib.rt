@@ -3,4 +3,6 @@
 
 pub mod answer; // what a call answers
 pub mod bounds; // the bound rules
-pub mod admission; // the admission, and what an admitted file says
+pub mod table; // an admitted table
+pub mod admission; // the admission
+pub mod reading; // what an admitted table says

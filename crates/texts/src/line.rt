@@ -1,4 +1,5 @@
 // The lines that are printed: a word and a count, or a refusal with its number and place.
+// Bounds of a number stay clauses here: the check finds them at each call, and a type around the number would be opened at each use.
 ghost use Rattle.std.specs.Prelude.{◌≡◌, ◌∷◌, ◌++◌, ◌+◌, ◌≤◌, length, drop};
 ghost use Rattle.table_files.specs.Answer.{refused};
 ghost use Rattle.calls.specs.Text.{ascii};

@@ -1,58 +1,58 @@
 // Some row of a location from which an edge leads out of a region list, if the edge is taken by its sides.
+// What joins two parameters stays a clause here: a type of both would be made anew for each call, and taken apart in it.
 ghost use Rattle.std.specs.Prelude.{◌≡◌, ℕ, ◌≤◌, length};
-ghost use Rattle.automata.specs.Successors.{edge_rows};
-ghost use Rattle.regions.specs.Values.{bounds_of, edge_of};
-ghost use Rattle.listed_rows.specs.Located.{RowsIn};
-ghost use Rattle.walked_rows.specs.Open.{Inside, SomeOpen};
-ghost use Rattle.walked_rows.specs.Leading.{Suited, Stretch, TakenInside, SameTaken};
+ghost use Rattle.skylines.specs.Sides.{sided};
+ghost use Rattle.listed_rows.specs.EdgesInLists.{edge_in, InSource};
+ghost use Rattle.walked_rows.specs.Open.{SomeOpen};
+ghost use Rattle.walked_rows.specs.Leading.{LeadsIn, TakenIn, SameTaken};
 
 use crate::turning::open_among;
+use listed_rows::edge_in_list::EdgeInList;
 use listed_rows::listed::Span;
-use regions::edge::Edge;
-use regions::region::Clocks;
 use skylines::sides::{is_choice, with_sides};
 
-// Takes those of the rows from start to before end that are old, and no other of them.
-fn take_old(old: &[bool], start: usize, end: usize, taken: &mut [bool])
-    requires start_le_end { (start ≤ end) × (end ≤ 4096) }
-    requires len { length old.now ≡ 4096 }
-    requires taken_len { length taken.old ≡ 4096 }
-    ensures { SameTaken start end old.now taken.new }
+// The edge by the sides that k chooses: from the same rows into the same.
+pub fn by_sides<'a>(edge: &EdgeInList<'a>, k: u8) -> EdgeInList<'a>
+    ensures list { result.list ≡ edge.now.list }
+    ensures source { result.e.source ≡ edge.now.e.source }
+    ensures means { edge_in result ≡ sided edge.now.list.clocks.count (edge_in edge.now) k }
 {
-    taken[start..end].copy_from_slice(&old[start..end]);
+    EdgeInList {
+        list: edge.list,
+        e: with_sides(edge.list.clocks.count as usize, edge.e, k),
+        into: edge.into,
+    }
 }
 
-// A row from start to before end from which the edge leads out of the list, or end. Where it asks for any value but a clock's, it is taken by its sides, one
-// choice after the other: by one side it leads no further from many rows, by both from none. It is known to lead into the list from the old rows, and so it
-// does by each side; of the others what was found by one side says nothing of the next, so that all flags are set anew.
+// Takes those of the rows that are old, and no other of them.
+fn take_old(old: &[bool; 4096], rows: Span, taken: &mut [bool; 4096])
+    requires start_le_end { (rows.start ≤ rows.end) × (rows.end ≤ 4096) }
+    ensures { SameTaken rows.start rows.end old.now taken.new }
+{
+    taken[rows.start..rows.end].copy_from_slice(&old[rows.start..rows.end]);
+}
+
+// One of the rows from which the edge leads out of the list, or their end. Where it asks for any value but a clock's, it is taken by its sides, one choice
+// after the other: by one side it leads no further from many rows, by both from none. It is known to lead into the list from the old rows, and so it does by
+// each side; of the others what was found by one side says nothing of the next, so that all flags are set anew.
 pub fn open_by_sides(
-    list: &[u8],
-    clocks: Clocks,
-    count: usize,
-    e: Edge,
-    into: Span,
-    start: usize,
-    end: usize,
-    old: &[bool],
-    taken: &mut [bool],
+    edge: &EdgeInList,
+    rows: Span,
+    old: &[bool; 4096],
+    taken: &mut [bool; 4096],
 ) -> usize
-    requires suited { Suited clocks list.now count e }
-    requires rows_in { RowsIn clocks.count list.now count e.target into.start into.end }
-    requires stretch { Stretch clocks.count list.now count e.source start end }
-    requires len { length old.now ≡ 4096 }
-    requires taken_inside { TakenInside (bounds_of clocks) (edge_of clocks.count e) clocks.count list.now count start end old.now }
-    requires taken_len { length taken.old ≡ 4096 }
-    ensures { SomeOpen (Inside (edge_rows (bounds_of clocks) (edge_of clocks.count e)) clocks.count list.now count) start end result }
+    requires in_source { InSource edge.now rows }
+    requires taken_inside { TakenIn edge.now rows old.now }
+    ensures { SomeOpen (LeadsIn edge.now) rows.start rows.end result }
 {
     for k in 0..16 {
-        if is_choice(clocks, e, k) {
-            let side = with_sides(clocks, e, k);
-            take_old(old, start, end, taken);
-            let open = open_among(list, clocks, count, side, into, start, end, taken);
-            if open < end {
+        if is_choice(edge.list.clocks.count as usize, edge.e, k) {
+            take_old(old, rows, taken);
+            let open = open_among(&by_sides(edge, k), rows, taken);
+            if open < rows.end {
                 return open;
             }
         }
     }
-    end
+    rows.end
 }

@@ -1,14 +1,15 @@
 -- The patterns of kinds, and how many rows each of them has. Assumes nothing.
-use Rattle.std.specs.Prelude.{ℕ, zero, suc, ◌+◌, ◌*◌, ◌/◌, ◌%◌, ◌≤◌, ◌<◌, ◌≡◌, List, length, get_or}
-use Rattle.automata.specs.Clocks.{at, each}
+use Rattle.std.specs.Prelude.{ℕ, zero, suc, ◌+◌, ◌*◌, ◌/◌, ◌%◌, ◌≤◌, ◌<◌, ◌≡◌, List, [], length, get_or}
+use Rattle.automata.specs.Clocks.{each}
 use Rattle.automata.specs.Rows.{select}
 use Rattle.regions.specs.Values.{bounds_of}
 use Rattle.regions.specs.Placing.{still}
 use Rattle.rankings.specs.Ranking.{ranked_rows}
 use Rattle.edge_walk.specs.Choice.{allowsb}
-use Rattle.edge_walk.specs.declared.choice.Search.{Search}
+use Rattle.edge_walk.specs.declared.search.Search.{Search}
 use Rattle.way_counts.specs.Kinds.{kind, of_kind}
 use Rattle.way_counts.specs.declared.patterns.Kinds.{Kinds}
+use Rattle.way_counts.specs.declared.patterns.OfKind.{OfKind}
 use Rattle.regions.specs.declared.clock_move.Move.{Move}
 
 -- numbers -----------------------------------------------------------------------------------------------------------------------
@@ -43,22 +44,30 @@ patterns (suc n) = 3 * patterns n
 abbrev pub move_at : Search → ℕ → Move
 move_at s z = get_or s.moves.each z still
 
--- a table has the count of each kind of intervals of each clock, and one of them where there are some
-pub record Counts (s : Search) (t : Kinds) : Type 0 where
-  pub counts : (z d : ℕ) → z < s.clocks.count → d < 3 → at t.counts (3 * z + d) ≡ of_kind (move_at s z) d ((move_at s z).top + 1)
-  pub within : (z d : ℕ) → z < s.clocks.count → d < 3 → at t.samples (3 * z + d) ≤ (move_at s z).top
-  pub alike : (z d j : ℕ) → z < s.clocks.count → d < 3 → j ≤ (move_at s z).top → kind (move_at s z) j ≡ d → kind (move_at s z) (at t.samples (3 * z + d)) ≡ d
+-- what a table has of kind d of clock z
+abbrev pub entry : Kinds → ℕ → ℕ → OfKind
+entry t z d = get_or (get_or t.each z []) d (record { count = 0; sample = 0 })
+
+-- the count of the intervals of kind d under a move, and one of them where there are some
+pub record Right (m : Move) (d : ℕ) (k : OfKind) : Type 0 where
+  pub counted : k.count ≡ of_kind m d (m.top + 1)
+  pub within : k.sample ≤ m.top
+  pub alike : (j : ℕ) → j ≤ m.top → kind m j ≡ d → kind m k.sample ≡ d
+
+-- a table has these of each kind of each clock
+abbrev pub Counts : Search → Kinds → Type 0
+Counts s t = (z d : ℕ) → z < s.clocks.count → d < 3 → Right (move_at s z) d (entry t z d)
 
 -- at most 256 intervals of each kind, so that no product of four counts is above 2^32
 abbrev pub FewOfEach : ℕ → Kinds → Type 0
-FewOfEach n t = (z d : ℕ) → z < n → d < 3 → at t.counts (3 * z + d) ≤ 256
+FewOfEach n t = (z d : ℕ) → z < n → d < 3 → (entry t z d).count ≤ 256
 
 -- how many intervals clock z has of its kind in pattern k, and one of them
 unfoldable pub count_at : Kinds → ℕ → ℕ → ℕ
-count_at t k z = at t.counts (3 * z + digit k z)
+count_at t k z = (entry t z (digit k z)).count
 
 unfoldable pub sample_at : Kinds → ℕ → ℕ → ℕ
-sample_at t k z = at t.samples (3 * z + digit k z)
+sample_at t k z = (entry t z (digit k z)).sample
 
 -- in how many ways n clocks can have intervals of the pattern, and one of these ways
 abbrev pub times : Kinds → ℕ → ℕ → ℕ

@@ -1,5 +1,6 @@
 // The kinds of a clock's intervals: which rankings a move allows turns on the kinds of the intervals alone. Intervals are counted by the stretches of them
 // of which the same is known, at most four, however many intervals there are.
+// Bounds of a number stay clauses here: the check finds them at each call, and a type around the number would be opened at each use.
 ghost use Rattle.std.specs.Prelude.{◌≡◌, cond, ℕ, ◌+◌, ◌-◌, ◌/◌, ◌≤◌, ◌<◌, eqb};
 ghost use Rattle.way_counts.specs.Kinds.{kind, number, number_found, of_kind};
 
@@ -13,9 +14,6 @@ pub enum Kind {
     Parted,
     Loose,
 }
-
-// The kinds in the order of their numbers.
-pub const KINDS: [Kind; 3] = [Kind::Shut, Kind::Parted, Kind::Loose];
 
 // The kind of a new interval, or none where it is not allowed at all.
 #[tactic(auto, using(crate::proofs::Laws::Kinds::kind_above, crate::proofs::Laws::Kinds::kind_none, crate::proofs::Laws::Kinds::kind_shut, crate::proofs::Laws::Kinds::kind_parts, crate::proofs::Laws::Kinds::kind_loose))]

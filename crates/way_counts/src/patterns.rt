@@ -1,22 +1,31 @@
 // The patterns of kinds: one kind for each clock's interval. Of all regions whose intervals are of one pattern the moves allow the same rankings, so these
 // are tried once for the pattern.
+// Bounds of a number stay clauses here: the check finds them at each call, and a type around the number would be opened at each use.
+// What joins two parameters stays a clause here: a type of both would be made anew for each call, and taken apart in it.
 ghost use Rattle.std.specs.Prelude.{◌≡◌, true, ℕ, ◌*◌, ◌≤◌, ◌<◌};
 ghost use Rattle.automata.specs.Clocks.{at};
 ghost use Rattle.regions.specs.Values.{row_of};
 ghost use Rattle.rankings.specs.Ranking.{InRange};
-ghost use Rattle.edge_walk.specs.Choice.{Ready};
-ghost use Rattle.way_counts.specs.Patterns.{digit, Counts, FewOfEach, times, samples_of, ways, pattern_rows};
+ghost use Rattle.way_counts.specs.Kinds.{number};
+ghost use Rattle.way_counts.specs.Patterns.{digit, Right, Counts, FewOfEach, times, samples_of, ways, pattern_rows};
 
-use crate::kinds::{KINDS, Kind, count_of_kind, one_of_kind};
-use edge_walk::choice::Search;
+use crate::kinds::{Kind, count_of_kind, one_of_kind};
+use edge_walk::search::Search;
 use rankings::ranking::{ranked, rankings_of};
+use regions::clock_move::Move;
 use regions::region::Region;
 
-// How many intervals of each kind each clock has, and one of them where there are some: three numbers a clock, clock by clock.
+// How many intervals of a kind a clock has, and one of them where there are some.
+#[derive(Clone, Copy)]
+pub struct OfKind {
+    pub count: u16,
+    pub sample: u16,
+}
+
+// What there is of each kind, in the order of their numbers, clock by clock.
 #[derive(Clone, Copy)]
 pub struct Kinds {
-    pub counts: [u16; 12],
-    pub samples: [u16; 12],
+    pub each: [[OfKind; 3]; 4],
 }
 
 // A pattern: in how many ways the clocks can have intervals of it, and one of these ways.
@@ -26,23 +35,39 @@ pub struct Pattern {
     pub part: Region,
 }
 
-// The kinds of all clocks' intervals, worked out once for all patterns.
-pub fn kinds_of(search: Search) -> Kinds
-    requires { Ready search }
-    ensures { Counts search result }
+// What a clock has of a kind.
+fn of_kind(asked: Move, wanted: Kind) -> OfKind
+    requires { asked.top ≤ 32767 }
+    ensures { Right asked (number wanted) result }
 {
-    let mut counts = [0; 12];
-    let mut samples = [0; 12];
-    for i in 0..3 * usize::from(search.clocks.count) {
-        let asked = search.moves.each[i / 3];
-        let kind = KINDS[i % 3];
-        counts[i] = count_of_kind(asked, kind);
-        samples[i] = one_of_kind(asked, kind);
+    OfKind {
+        count: count_of_kind(asked, wanted),
+        sample: one_of_kind(asked, wanted),
     }
-    Kinds { counts, samples }
 }
 
-// The digits of a pattern's number in base 3, clock by clock: each stands for the kind at its place in KINDS.
+// The kinds of all clocks' intervals, worked out once for all patterns.
+pub fn kinds_of(search: Search) -> Kinds
+    ensures { Counts search result }
+{
+    // what stands where there is no clock; nothing reads it
+    let nothing = OfKind {
+        count: 0,
+        sample: 0,
+    };
+    let mut each = [[nothing; 3]; 4];
+    for z in 0..usize::from(search.clocks.count) {
+        let asked = search.moves.each[z];
+        each[z] = [
+            of_kind(asked, Kind::Shut),
+            of_kind(asked, Kind::Parted),
+            of_kind(asked, Kind::Loose),
+        ];
+    }
+    Kinds { each }
+}
+
+// The digits of a pattern's number in base 3, clock by clock: each is the number of a kind.
 fn digits_of(number: usize) -> [usize; 4]
     ensures digits { (z : ℕ) → z < 4 → at result z ≡ digit number z }
     ensures low { (z : ℕ) → at result z < 3 }
@@ -66,9 +91,9 @@ fn pattern_of(kinds: Kinds, n: usize, location: u8, number: usize) -> Pattern
     };
     let mut times = 1;
     for z in 0..n {
-        let i = 3 * z + digits[z];
-        times *= usize::from(kinds.counts[i]);
-        part.intervals[z] = kinds.samples[i];
+        let chosen = kinds.each[z][digits[z]];
+        times *= usize::from(chosen.count);
+        part.intervals[z] = chosen.sample;
     }
     Pattern { times, part }
 }
@@ -84,7 +109,6 @@ fn is_loose(n: usize, number: usize) -> bool
 
 // How many regions with the location and the intervals of the part the moves allow, each of them tried.
 fn allowed_rankings(search: Search, part: Region) -> usize
-    requires ready { Ready search }
     requires in_range { InRange search.clocks part }
     ensures { result ≡ ways search part.location (row_of search.clocks.count part).intervals }
 {
@@ -97,7 +121,6 @@ fn allowed_rankings(search: Search, part: Region) -> usize
 // How many regions of the location the moves allow whose intervals are of the pattern.
 #[tactic(auto, using(crate::proofs::Laws::Loops::rows_none, crate::proofs::Laws::Loops::part_within, crate::proofs::Laws::Loops::rows_fit, crate::proofs::Laws::Loops::rows_are, crate::proofs::Laws::Loops::loose_rankings, crate::proofs::Laws::Loops::tried_ways))]
 pub fn rows_of_pattern(search: Search, kinds: Kinds, location: u8, number: usize) -> usize
-    requires ready { Ready search }
     requires counts { Counts search kinds }
     requires few_of_each { FewOfEach search.clocks.count kinds }
     ensures { result ≡ pattern_rows search location kinds number }

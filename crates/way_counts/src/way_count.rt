@@ -1,8 +1,8 @@
 // How many regions are on an edge's way: the sum over all patterns, whose number the bounds do not move.
+// Bounds of a number stay clauses here: the check finds them at each call, and a type around the number would be opened at each use.
 ghost use Rattle.std.specs.Prelude.{◌≡◌, ℕ, ◌≤◌, ◌<◌, length};
 ghost use Rattle.automata.specs.Clocks.{at};
-ghost use Rattle.edge_walk.specs.Choice.{Ready};
-ghost use Rattle.edge_walk.specs.Way.{way_rows};
+ghost use Rattle.edge_walk.specs.Way.{rows_on};
 ghost use Rattle.way_counts.specs.Patterns.{patterns};
 
 use crate::patterns::{kinds_of, rows_of_pattern};
@@ -21,15 +21,10 @@ fn pattern_count(n: usize) -> usize
 }
 
 // How many regions are on the way. No region is visited, nor any interval by itself: bounds up to 127 only see to it that the sum fits.
-#[tactic(auto, using(crate::proofs::Laws::Loops::nowhere))]
 pub fn way_count(way: Way) -> usize
-    requires ready { Ready way.search }
     requires by_index { (z : ℕ) → z < way.search.clocks.count → at way.search.clocks.bounds z ≤ 127 }
-    ensures { result ≡ length (way_rows way) }
+    ensures { result ≡ length (rows_on way) }
 {
-    if !way.leads {
-        return 0;
-    }
     let kinds = kinds_of(way.search);
     (0..pattern_count(usize::from(way.search.clocks.count)))
         .map(|number| rows_of_pattern(way.search, kinds, way.target, number))

@@ -1,6 +1,6 @@
 -- What `all` and `any` answer where a call of the closure is a test: of the numbers below n, the tests clock by clock of specs/Clocks; of a slice, `every`
 -- and `any` of specs/Checks. Assumes nothing.
-use Prim.Native.Nat.{ℕ, zero, suc, ◌+◌}
+use Prim.Native.Nat.{ℕ, zero, suc, ◌+◌, ◌<◌}
 use Rattle.automata.specs.Checks.{every, any}
 use Rattle.automata.specs.Clocks.{allb, someb}
 use Rattle.std.proofs.Math.Bool.{and-true, or-false, or_comm}
@@ -62,6 +62,17 @@ pub someb_from_any : {F : Type 0} {g : Mut F (ℕ × Unit {0}) Bool} {n : ℕ} (
 someb_from_any {F} {g} {n} test u f r ran k =
     any_from_yields_List test u f r ran (YieldsList-from_range 0 n n refl (omega arith)) k
     ∙ any_below test n
+
+-- the same tests of the numbers below n
+pub allb_same : (n : ℕ) (f g : ℕ → Bool) → ((z : ℕ) → z < n → f z ≡ g z) → allb n f ≡ allb n g
+unfolding allb
+allb_same zero f g h = refl
+allb_same (suc n) f g h = rw (allb_same n f g (λ z l. h z (omega arith)), h n (omega arith))
+
+pub someb_same : (n : ℕ) (f g : ℕ → Bool) → ((z : ℕ) → z < n → f z ≡ g z) → someb n f ≡ someb n g
+unfolding someb
+someb_same zero f g h = refl
+someb_same (suc n) f g h = rw (someb_same n f g (λ z l. h z (omega arith)), h n (omega arith))
 
 -- a slice ---------------------------------------------------------------------------------------------------------------------------
 

@@ -3,27 +3,25 @@
 use Prim.Native.Nat.{ℕ, zero, suc, ◌+◌, ◌*◌, ◌-◌, ◌≤◌, ◌<◌}
 use native.Mathlib.Omega.{arith}
 use mathlib.Core.Path.{◌≡◌, refl, sym, ap, subst, ◌∙◌}
-use mathlib.Core.Bool.{Bool, true, false, cond, ◌&&◌}
 use mathlib.Core.Logic.{◌⊎◌, inl, inr}
-use mathlib.Core.Option.{none}
-use mathlib.Core.List.Memᴰ
+use mathlib.Core.Option.{none, some}
 use mathlib.Core.List.{List, [], ◌∷◌}
 use lib.ListN.{length, take}
-use lib.Dec.{eqb, ltb}
 use Rattle.automata.specs.Clocks.{at}
 use Rattle.automata.specs.Row.{Row, IsRow, Before, Below}
 use Rattle.automata.specs.Closed.{Mem}
-use Rattle.automata.specs.Rows.{select, rows_at}
-use Rattle.regions.specs.Values.{bounds_of, row_of, padded, region_of, sought, found_of}
+use Rattle.automata.specs.Rows.{rows_at}
+use Rattle.regions.specs.Values.{bounds_of, row_of, padded, region_of, sought}
 use Rattle.regions.specs.Order.{numbers}
-use Rattle.edge_walk.specs.Walk.{above, first_above}
+use Rattle.edge_walk.specs.Walk.{first_above}
 use Rattle.edge_walk.specs.Choice.{Agree, allowsb, Candidate, Answers, Ready}
 use Rattle.edge_walk.specs.Stand.{start, after, Later, Ahead, Standing}
-use Rattle.edge_walk.specs.Way.{way_rows}
-use Rattle.regions.specs.declared.region.Sought.{Sought}
-use Rattle.edge_walk.specs.declared.choice.Search.{Search}
+use Rattle.edge_walk.specs.Way.{rows_on}
+use Rattle.regions.specs.declared.region.Region.{Region}
+use Rattle.std.specs.declared.option.Option as option_code
+use Rattle.std.specs.declared.option.Option.TheVariants.{None}
+use Rattle.edge_walk.specs.declared.search.Search.{Search}
 use Rattle.edge_walk.specs.declared.way.Way.{Way}
-use Rattle.automata.proofs.Laws.Tests.{never, refutes, eqb_law, ltb_law, and_law}
 use Rattle.automata.proofs.Laws.Members.{select_in, select_out, Sorted, sorted_select}
 use Rattle.automata.proofs.Laws.Rows.{rows_at_in, rows_at_out, rows_at_sorted}
 use Rattle.automata.proofs.Laws.Checks.{belowb_law}
@@ -70,128 +68,102 @@ module _ (w : Way) (ready : Ready w.search) where
   abbrev c : List ℕ
   c = bounds_of s.clocks
 
-  pub way_sorted : Sorted Below (way_rows w)
-  unfolding way_rows
-  way_sorted = go w.leads
-    where
-      go : (b : Bool) → Sorted Below (cond b (select (allowsb s) (rows_at c w.target)) [])
-      go true = sorted_select Below (allowsb s) (rows_at c w.target) (rows_at_sorted c w.target)
-      go false = tt
-
-  -- it leads nowhere
-  pub none_on : w.leads ≡ false → (x : Row) → Mem x (way_rows w) → ⊥
-  unfolding way_rows
-  none_on h x m = Memᴰ.not-nil (rw h at m)
-
-  pub nowhere : (floor r : Sought) → w.leads ≡ false → r ≡ sought none → r ≡ sought (first_above (found_of n floor) (way_rows w))
-  nowhere floor r h = no_answer (found_of n floor) (way_rows w) way_sorted r (λ x q. none_on h x q.0)
+  pub way_sorted : Sorted Below (rows_on w)
+  unfolding rows_on
+  way_sorted = sorted_select Below (allowsb s) (rows_at c w.target) (rows_at_sorted c w.target)
 
   -- its rows are the candidates in the target
-  module _ (leads : w.leads ≡ true) where
-    on_way : (x : Row) → Candidate s x → x.location ≡ w.target → Mem x (way_rows w)
-    unfolding way_rows
-    on_way x q l = rw leads (select_in (allowsb s) (rows_at_in c w.target x l q.is_row) q.placed)
+  on_way : (x : Row) → Candidate s x → x.location ≡ w.target → Mem x (rows_on w)
+  unfolding rows_on
+  on_way x q l = select_in (allowsb s) (rows_at_in c w.target x l q.is_row) q.placed
 
-    of_way : (x : Row) → Mem x (way_rows w) → Candidate s x × (x.location ≡ w.target)
-    unfolding way_rows
-    of_way x m =
-        let (k, t) = select_out (allowsb s) (rows_at c w.target) (rw leads at m) in
-        let (l, i) = rows_at_out c w.target x k in
-        (record { is_row = i; placed = t }, l)
+  of_way : (x : Row) → Mem x (rows_on w) → Candidate s x × (x.location ≡ w.target)
+  unfolding rows_on
+  of_way x m =
+      let (k, t) = select_out (allowsb s) (rows_at c w.target) m in
+      let (l, i) = rows_at_out c w.target x k in
+      (record { is_row = i; placed = t }, l)
 
-    -- from its beginning
-    pub starts : Standing s (start w.target)
-    starts = record {
-      plain = let p = padded_zeros n ready.few.few in λ i. record { location = w.target; intervals = p i; ranks = p i };
-      within = omega arith;
-      over = λ z. absurd (omega arith);
-      arrived = λ z. (refl, sym (not_yet s (start w.target).part 1 (omega arith)));
-    }
+  -- from its beginning
+  pub starts : Standing s (start w.target)
+  starts = record {
+    plain = let p = padded_zeros n ready.few.few in λ i. record { location = w.target; intervals = p i; ranks = p i };
+    within = omega arith;
+    over = λ z. absurd (omega arith);
+    arrived = λ z. (refl, sym (not_yet s (start w.target).part 1 (omega arith)));
+  }
 
-    pub start_on : (x : Row) → Ahead s (start w.target) x → Mem x (way_rows w)
-    start_on x q = on_way x q.held q.located
+  pub start_on : (x : Row) → Ahead s (start w.target) x → Mem x (rows_on w)
+  start_on x q = on_way x q.held q.located
 
-    pub on_start : (x : Row) → Mem x (way_rows w) → Ahead s (start w.target) x
-    on_start x m = let (q, l) = of_way x m in record { held = q; located = l; later = inl (λ j h. let z : j ≡ 0 = omega arith in rw z l, omega arith) }
+  pub on_start : (x : Row) → Mem x (rows_on w) → Ahead s (start w.target) x
+  on_start x m = let (q, l) = of_way x m in record { held = q; located = l; later = inl (λ j h. let z : j ≡ 0 = omega arith in rw z l, omega arith) }
 
-    module _ (floor : Sought) where
-      abbrev f : Row
-      f = row_of n floor.region
+  -- there is no floor
+  pub from_start : (r : option_code.Option Region) → Answers (Ahead s (start w.target)) r → r ≡ sought (first_above none (rows_on w))
+  from_start r = answer_is none (rows_on w) way_sorted (Ahead s (start w.target)) r (λ x a. (start_on x a, refl)) (λ x m. on_start x m.0)
 
-      -- every row is below the floor
-      pub all_below : (r : Sought) → floor.found && ltb w.target floor.region.location ≡ true → r ≡ sought none
-          → r ≡ sought (first_above (found_of n floor) (way_rows w))
-      all_below r h = no_answer (found_of n floor) (way_rows w) way_sorted r (λ x q. go x floor.found h (of_way x q.0).1 q.1)
+  module _ (floor : Region) where
+    abbrev f : Row
+    f = row_of n floor
+
+    -- every row is below the floor
+    pub all_below : w.target < floor.location → None ≡ sought (first_above (some f) (rows_on w))
+    all_below h = no_answer (some f) (rows_on w) way_sorted (λ x q. not_below x (omega (arith, (of_way x q.0).1)) ((belowb_law f x).0 q.1))
+      where
+        not_below : (x : Row) → x.location < f.location → Below f x → ⊥
+        not_below x l (inl b) = omega arith
+        not_below x l (inr b) = omega arith
+
+    -- every row is above it
+    pub from_start_above : floor.location < w.target → (r : option_code.Option Region) → Answers (Ahead s (start w.target)) r
+        → r ≡ sought (first_above (some f) (rows_on w))
+    from_start_above h r =
+        answer_is (some f) (rows_on w) way_sorted (Ahead s (start w.target)) r
+        (λ x a. (start_on x a, (belowb_law f x).1 (inl (omega (arith, a.located))))) (λ x m. on_start x m.0)
+
+    -- it is in the target
+    module _ (fours : Four floor) (h : f.location ≡ w.target) where
+      same : row_of n (region_of f) ≡ f
+      same = row_region n f (length_first n floor.intervals ready.few.few fours.intervals) (length_first n floor.ranks ready.few.few fours.ranks)
+
+      pub stands_after : Standing s (after n floor)
+      stands_after = record {
+        plain = ap region_of same;
+        within = omega arith;
+        over = λ z. rw z (omega arith);
+        arrived = λ z. absurd (omega arith);
+      }
+
+      sized : (x : Row) → IsRow c x → length s.clocks.bounds ≡ 4 → length f.intervals ≡ length x.intervals
+      sized x i four = length_first n floor.intervals ready.few.few fours.intervals ∙ sym (i.intervals_length ∙ length_first n s.clocks.bounds ready.few.few four)
+
+      pub from_floor : length s.clocks.bounds ≡ 4 → (r : option_code.Option Region) → Answers (Ahead s (after n floor)) r
+          → r ≡ sought (first_above (some f) (rows_on w))
+      from_floor four r = answer_is (some f) (rows_on w) way_sorted (Ahead s (after n floor)) r to back
         where
-          not_below : (x : Row) → x.location < f.location → Below f x → ⊥
-          not_below x l (inl b) = omega arith
-          not_below x l (inr b) = omega arith
+          few : length (numbers f) ≡ 1 + 2 * n
+          few = count_numbers n f (length_first n floor.intervals ready.few.few fours.intervals) (length_first n floor.ranks ready.few.few fours.ranks)
 
-          go : (x : Row) (b : Bool) → b && ltb w.target f.location ≡ true → x.location ≡ w.target
-              → above (found_of n (record { found = b; region = floor.region })) x ≡ true → ⊥
-          go x true h l u = let z : w.target < f.location = (ltb_law w.target f.location).0 h in not_below x (omega arith) ((belowb_law f x).0 u)
-          go x false h l u = never h
+          count : (x : Row) → IsRow c x → length (numbers x) ≡ 1 + 2 * n
+          count x i =
+              let e = length_first n s.clocks.bounds ready.few.few four in
+              count_numbers n x (i.intervals_length ∙ e) (i.ranks_length ∙ e)
 
-      -- every row is above it, if there is one
-      pub from_start : (r : Sought) → floor.found && ltb w.target floor.region.location ≡ false → floor.found && eqb floor.region.location w.target ≡ false
-          → Answers (Ahead s (start w.target)) r → r ≡ sought (first_above (found_of n floor) (way_rows w))
-      from_start r p q =
-          answer_is (found_of n floor) (way_rows w) way_sorted (Ahead s (start w.target)) r
-          (λ x a. (start_on x a, go x floor.found p q a.located)) (λ x m. on_start x m.0)
-        where
-          go : (x : Row) (b : Bool) → b && ltb w.target f.location ≡ false → b && eqb f.location w.target ≡ false → x.location ≡ w.target
-              → above (found_of n (record { found = b; region = floor.region })) x ≡ true
-          go x true p q l =
-              let a = refutes (ltb w.target f.location) (ltb_law w.target f.location) p in
-              let b = refutes (eqb f.location w.target) (eqb_law f.location w.target) q in
-              (belowb_law f x).1 (inl (omega (arith, a, b)))
-          go x false p q l = refl
+          ps : numbers (row_of n (region_of f)) ≡ numbers f
+          ps = ap numbers same
 
-      -- it is in the target
-      module _ (fours : Four floor.region) (h : floor.found && eqb floor.region.location w.target ≡ true) where
-        there : (floor.found ≡ true) × (f.location ≡ w.target)
-        there = (and_law floor.found (eqb f.location w.target) (λ h. h, λ h. h) (eqb_law f.location w.target)).0 h
+          to : (x : Row) → Ahead s (after n floor) x → Among (some f) (rows_on w) x
+          to x q = (
+            on_way x q.held (q.located ∙ h),
+            ((belowb_law f x).1 (before_below f x (sized x q.held.is_row four)
+                (later_before (numbers f) (numbers x) (few ∙ sym (count x q.held.is_row)) (1 + 2 * n - 1) (omega (arith, few)) (subst (λ (us : List ℕ). Later us (1 + 2 * n - 1) (at us (1 + 2 * n - 1) + 1) (numbers x)) ps q.later)))),
+          )
 
-        same : row_of n (region_of f) ≡ f
-        same = row_region n f (length_first n floor.region.intervals ready.few.few fours.intervals) (length_first n floor.region.ranks ready.few.few fours.ranks)
-
-        pub stands_after : Standing s (after n floor.region)
-        stands_after = record {
-          plain = ap region_of same;
-          within = omega arith;
-          over = λ z. rw z (omega arith);
-          arrived = λ z. absurd (omega arith);
-        }
-
-        sized : (x : Row) → IsRow c x → length s.clocks.bounds ≡ 4 → length f.intervals ≡ length x.intervals
-        sized x i four = length_first n floor.region.intervals ready.few.few fours.intervals ∙ sym (i.intervals_length ∙ length_first n s.clocks.bounds ready.few.few four)
-
-        pub from_floor : length s.clocks.bounds ≡ 4 → (r : Sought) → Answers (Ahead s (after n floor.region)) r
-            → r ≡ sought (first_above (found_of n floor) (way_rows w))
-        from_floor four r = answer_is (found_of n floor) (way_rows w) way_sorted (Ahead s (after n floor.region)) r to back
-          where
-            few : length (numbers f) ≡ 1 + 2 * n
-            few = count_numbers n f (length_first n floor.region.intervals ready.few.few fours.intervals) (length_first n floor.region.ranks ready.few.few fours.ranks)
-
-            count : (x : Row) → IsRow c x → length (numbers x) ≡ 1 + 2 * n
-            count x i =
-                let e = length_first n s.clocks.bounds ready.few.few four in
-                count_numbers n x (i.intervals_length ∙ e) (i.ranks_length ∙ e)
-
-            ps : numbers (row_of n (region_of f)) ≡ numbers f
-            ps = ap numbers same
-
-            to : (x : Row) → Ahead s (after n floor.region) x → Among (found_of n floor) (way_rows w) x
-            to x q = (
-              on_way x q.held (q.located ∙ there.1),
-              rw there.0 ((belowb_law f x).1 (before_below f x (sized x q.held.is_row four)
-                  (later_before (numbers f) (numbers x) (few ∙ sym (count x q.held.is_row)) (1 + 2 * n - 1) (omega (arith, few)) (subst (λ (us : List ℕ). Later us (1 + 2 * n - 1) (at us (1 + 2 * n - 1) + 1) (numbers x)) ps q.later)))),
-            )
-
-            back : (x : Row) → Among (found_of n floor) (way_rows w) x → Ahead s (after n floor.region) x
-            back x (m, u) = let (q, l) = of_way x m in record {
-              held = q;
-              located = l ∙ sym there.1;
-              later = subst (λ (us : List ℕ). Later us (1 + 2 * n - 1) (at us (1 + 2 * n - 1) + 1) (numbers x)) (sym ps) (before_later (numbers f) (numbers x) (few ∙ sym (count x q.is_row)) (1 + 2 * n - 1) (omega (arith, few))
-                  (below_before f x (sized x q.is_row four) ((belowb_law f x).0 (rw there.0 at u))));
-            }
+          back : (x : Row) → Among (some f) (rows_on w) x → Ahead s (after n floor) x
+          back x (m, u) = let (q, l) = of_way x m in record {
+            held = q;
+            located = l ∙ sym h;
+            later = subst (λ (us : List ℕ). Later us (1 + 2 * n - 1) (at us (1 + 2 * n - 1) + 1) (numbers x)) (sym ps) (before_later (numbers f) (numbers x) (few ∙ sym (count x q.is_row)) (1 + 2 * n - 1) (omega (arith, few))
+                (below_before f x (sized x q.is_row four) ((belowb_law f x).0 u)));
+          }

@@ -22,7 +22,7 @@ use Rattle.regions.specs.Placing.{still, rank_fits_at, greedy_at, placed_at}
 use Rattle.edge_walk.specs.Choice.{Agree, Candidate, Ready, numbers_of, room, stuckb, PassesOver, Skips, Ends}
 use Rattle.regions.specs.declared.clock_move.Move.{Move}
 use Rattle.regions.specs.declared.region.Region.{Region}
-use Rattle.edge_walk.specs.declared.choice.Search.{Search}
+use Rattle.edge_walk.specs.declared.search.Search.{Search}
 use Rattle.automata.proofs.Laws.Tests.{Says, never, true_or_false, refutes, ltb_law, not_law, and_law, and_false}
 use Rattle.automata.proofs.Laws.Clocks.{openb_law}
 use Rattle.automata.proofs.Laws.Ranks.{rank_room_few, rank_room_le, rank_fresh}

@@ -11,7 +11,8 @@ use Rattle.automata.specs.Closed.{Mem}
 use Rattle.regions.specs.Values.{sought}
 use Rattle.edge_walk.specs.Walk.{above, first_above}
 use Rattle.edge_walk.specs.Choice.{First, Answers}
-use Rattle.regions.specs.declared.region.Sought.{Sought}
+use Rattle.std.specs.declared.option.Option as option_code
+use Rattle.regions.specs.declared.region.Region.{Region}
 use Rattle.automata.proofs.Laws.Tests.{never}
 use Rattle.automata.proofs.Laws.Members.{Sorted}
 
@@ -58,10 +59,15 @@ module _ (floor : Option Row) where
       go false e ih o f = ih o (first_same (Among (r ∷ rows)) (Among rows) (λ x. later x e) earlier o f)
 
   -- an answer among the same rows
-  pub answer_is : (rows : List Row) → Sorted Below rows → (Q : Row → Type 0) (r : Sought) → ((x : Row) → Q x → Among rows x) → ((x : Row) → Among rows x → Q x)
+  pub answer_is : (rows : List Row) → Sorted Below rows → (Q : Row → Type 0) (r : option_code.Option Region) → ((x : Row) → Q x → Among rows x) → ((x : Row) → Among rows x → Q x)
       → Answers Q r → r ≡ sought (first_above floor rows)
   answer_is rows s Q r to back a = a.given ∙ ap sought (first_is rows s a.row (first_same Q (Among rows) to back a.row a.first))
 
   -- no answer
-  pub no_answer : (rows : List Row) → Sorted Below rows → (r : Sought) → ((x : Row) → Among rows x → ⊥) → r ≡ sought none → r ≡ sought (first_above floor rows)
-  no_answer rows s r f e = e ∙ ap sought (first_is rows s none f)
+  pub no_answer : (rows : List Row) → Sorted Below rows → ((x : Row) → Among rows x → ⊥) → option_code.TheVariants.None ≡ sought (first_above floor rows)
+  no_answer rows s f = ap sought (first_is rows s none f)
+
+  -- no rows
+  pub nothing_first : (rows : List Row) → [] ≡ rows → option_code.TheVariants.None ≡ sought (first_above floor rows)
+  unfolding first_above
+  nothing_first rows e = rw (← e) refl

@@ -17,7 +17,7 @@ use Rattle.regions.specs.declared.region.Region.{Region}
 use Rattle.edge_walk.specs.Choice.{Ready}
 use Rattle.edge_walk.specs.Stand.{start}
 use Rattle.edge_walk.specs.Intervals.{Chosen}
-use Rattle.edge_walk.specs.declared.choice.Search.{Search}
+use Rattle.edge_walk.specs.declared.search.Search.{Search}
 use Rattle.edge_walk.specs.declared.stand.Stand.{Stand}
 use Rattle.automata.proofs.Laws.Leads.{Least, least_is}
 

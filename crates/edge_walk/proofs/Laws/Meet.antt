@@ -9,12 +9,12 @@ use lib.ListN.{length}
 use lib.Dec.{eqb}
 use Rattle.automata.specs.Row.{Row}
 use Rattle.automata.specs.Rows.{isrowb}
-use Rattle.regions.specs.Values.{bounds_of, row_of, sought}
+use Rattle.regions.specs.Values.{bounds_of, row_of}
 use Rattle.edge_walk.specs.Choice.{Answers, Ready}
 use Rattle.edge_walk.specs.Stand.{Begun, Ahead, Advance}
 use Rattle.regions.specs.declared.region.Region.{Region}
-use Rattle.regions.specs.declared.region.Sought.{Sought}
-use Rattle.edge_walk.specs.declared.choice.Search.{Search}
+use Rattle.std.specs.declared.option.Option as option_code
+use Rattle.edge_walk.specs.declared.search.Search.{Search}
 use Rattle.edge_walk.specs.declared.stand.Stand.{Stand}
 use Rattle.automata.proofs.Laws.Tests.{Says, eqb_law, and_law, refutes}
 use Rattle.edge_walk.proofs.Laws.Stand.{none_ahead, no_region, least_met, Reached, goes_on}
@@ -34,8 +34,8 @@ module _ (s : Search) (ready : Ready s) (four : length s.clocks.bounds ≡ 4) (a
       go (inl d) = absurd d
       go (inr r) = r
 
-  pub nothing_met : b.depth ≡ 0 → (r : Sought) → r ≡ sought none → Answers (Ahead s a) r
-  nothing_met e r f = record { row = none; given = f; first = λ x q. none_ahead s ready four b u.standing e x (still_ahead x q) }
+  pub nothing_met : b.depth ≡ 0 → Answers (Ahead s a) option_code.TheVariants.None
+  nothing_met e = record { row = none; given = refl; first = λ x q. none_ahead s ready four b u.standing e x (still_ahead x q) }
 
   -- the code's test whether the part is met
   module _ (all : ℕ) (f : all ≡ 1 + 2 * n) where
@@ -45,13 +45,13 @@ module _ (s : Search) (ready : Ready s) (four : length s.clocks.bounds ≡ 4) (a
     met_law : Says metb ((b.depth ≡ all) × (isrowb (bounds_of s.clocks) (row_of n b.part) ≡ true))
     met_law = and_law (eqb b.depth all) (isrowb (bounds_of s.clocks) (row_of n b.part)) (eqb_law b.depth all) (λ h. h, λ h. h)
 
-    pub one_met : metb ≡ true → Answers (Ahead s a) (record { found = true; region = b.part })
+    pub one_met : metb ≡ true → Answers (Ahead s a) (option_code.TheVariants.Some b.part)
     one_met h =
         let (e, g) = met_law.0 h in
         let (q, least) = least_met s ready four b u.standing (e ∙ f) g in
         record {
           row = some (row_of n b.part);
-          given = ap (λ (v : Region). record { found = true; region = v }) (sym u.standing.plain);
+          given = ap (λ (v : Region). option_code.TheVariants.Some v) (sym u.standing.plain);
           first = (u.from (row_of n b.part) q, λ x p. least x (still_ahead x p));
         }
 

@@ -18,7 +18,7 @@ use Rattle.regions.specs.Order.{numbers, put}
 use Rattle.edge_walk.specs.Choice.{Agree, Candidate, First, Ready, numbers_of, stuckb, Skips, Ends}
 use Rattle.edge_walk.specs.Stand.{back, Begun, Later, Ahead, Standing, tries, steps_behind, Advance}
 use Rattle.regions.specs.declared.region.Region.{Region}
-use Rattle.edge_walk.specs.declared.choice.Search.{Search}
+use Rattle.edge_walk.specs.declared.search.Search.{Search}
 use Rattle.edge_walk.specs.declared.stand.Stand.{Stand}
 use Rattle.automata.proofs.Laws.Tests.{never}
 use Rattle.automata.proofs.Laws.Rows.{isrowb_law}

@@ -9,14 +9,14 @@ use Rattle.automata.specs.Checks.{every}
 use Rattle.edge_walk.specs.Choice.{Ready}
 use Rattle.edge_walk.specs.Stand.{start, Ahead}
 use Rattle.edge_walk.specs.Visit.{AllPass}
-use Rattle.edge_walk.specs.Way.{way_rows}
-use Rattle.edge_walk.specs.declared.choice.Search.{Search}
+use Rattle.edge_walk.specs.Way.{rows_on}
+use Rattle.edge_walk.specs.declared.search.Search.{Search}
 use Rattle.edge_walk.specs.declared.stand.Stand.{Stand}
 use Rattle.edge_walk.specs.declared.way.Way.{Way}
 use Rattle.automata.proofs.Laws.Tests.{Says, never, true_or_false, fails}
 use Rattle.automata.proofs.Laws.Checks.{every_law}
 use Rattle.edge_walk.proofs.Laws.Stand.{none_ahead, Reached}
-use Rattle.edge_walk.proofs.Laws.Along.{none_on, start_on, on_start}
+use Rattle.edge_walk.proofs.Laws.Along.{start_on, on_start}
 
 -- from where a visit began it has come to b, and all that is behind has passed
 abbrev pub Visiting : Search → (Row → Bool) → Stand → Stand → Type 0
@@ -33,15 +33,12 @@ module _ (s : Search) (p : Row → Bool) (a b : Stand) (v : Visiting s p a b) wh
 -- the whole of an edge's way --------------------------------------------------------------------------------------------------------------
 
 module _ (w : Way) (ready : Ready w.search) (p : Row → Bool) where
-  rows_law : Says (every p (way_rows w)) ((x : Row) → Mem x (way_rows w) → p x ≡ true)
-  rows_law = every_law p (λ x. (λ h. h, λ h. h)) (way_rows w)
+  rows_law : Says (every p (rows_on w)) ((x : Row) → Mem x (rows_on w) → p x ≡ true)
+  rows_law = every_law p (λ x. (λ h. h, λ h. h)) (rows_on w)
 
-  pub visit_none : w.leads ≡ false → true ≡ every p (way_rows w)
-  visit_none h = sym (rows_law.1 (λ x m. absurd (none_on w ready h x m)))
-
-  pub visited : w.leads ≡ true → (b : Bool) → AllPass (Ahead w.search (start w.target)) p b → b ≡ every p (way_rows w)
-  visited leads b a = go (true_or_false b)
+  pub visited : (b : Bool) → AllPass (Ahead w.search (start w.target)) p b → b ≡ every p (rows_on w)
+  visited b a = go (true_or_false b)
     where
-      go : (b ≡ true) ⊎ (b ≡ false) → b ≡ every p (way_rows w)
-      go (inl t) = t ∙ sym (rows_law.1 (λ x m. a.passed t x (on_start w ready leads x m)))
-      go (inr f) = f ∙ sym (fails (every p (way_rows w)) rows_law (λ all. never (sym f ∙ a.noticed (λ x q. all x (start_on w ready leads x q)))))
+      go : (b ≡ true) ⊎ (b ≡ false) → b ≡ every p (rows_on w)
+      go (inl t) = t ∙ sym (rows_law.1 (λ x m. a.passed t x (on_start w ready x m)))
+      go (inr f) = f ∙ sym (fails (every p (rows_on w)) rows_law (λ all. never (sym f ∙ a.noticed (λ x q. all x (start_on w ready x q)))))

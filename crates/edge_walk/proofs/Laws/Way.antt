@@ -2,7 +2,7 @@
 use Prim.Native.Nat.{ℕ, ◌+◌, ◌*◌, ◌-◌, ◌≤◌, ◌<◌}
 use native.Mathlib.Omega.{arith}
 use mathlib.Core.Path.{◌≡◌, refl, sym, ap, ◌∙◌}
-use mathlib.Core.Bool.{Bool, true, false, cond, ◌&&◌}
+use mathlib.Core.Bool.{Bool, true, false, ◌&&◌}
 use mathlib.Core.List.Memᴰ
 use mathlib.Core.List.{List, [], ◌∷◌}
 use lib.ListN.{length, get_or}
@@ -16,14 +16,13 @@ use Rattle.automata.specs.Successors.{guardsb, least, placedb, leadsb, edge_rows
 use Rattle.regions.specs.Values.{Few, bounds_of, row_of, edge_of}
 use Rattle.regions.specs.Move.{move_of, permitsb}
 use Rattle.regions.specs.Placing.{still, placed_at, some_permitted, MovesOf}
-use Rattle.edge_walk.specs.Choice.{allowsb, Ready}
-use Rattle.edge_walk.specs.Way.{way_rows}
-use Rattle.regions.specs.declared.region.Clocks.{Clocks}
+use Rattle.edge_walk.specs.Choice.{allowsb}
+use Rattle.edge_walk.specs.Way.{rows_on}
+use Rattle.regions.specs.declared.clocks.Clocks.{Clocks}
 use Rattle.regions.specs.declared.region.Region.{Region}
 use Rattle.regions.specs.declared.edge.Edge as edge_code
 use Rattle.regions.specs.declared.placing.Moves.{Moves}
-use Rattle.edge_walk.specs.declared.choice.Search.{Search}
-use Rattle.edge_walk.specs.declared.way.Way.{Way}
+use Rattle.edge_walk.specs.declared.search.Search.{Search}
 use Rattle.automata.proofs.Laws.Tests.{Says, never, fails, refutes, eqb_law, leb_law, and_law, allb_law}
 use Rattle.automata.proofs.Laws.Ranks.{few_ranks}
 use Rattle.automata.proofs.Laws.Rows.{isrowb_law, rows_at_out}
@@ -79,19 +78,20 @@ module _ (k : Clocks) (few : Few k) (four : length k.bounds ≡ 4) (v : Region) 
   clocks_count = length_first n k.bounds few.few four
 
   -- it does not leave from the region
-  pub no_way : (w : Way) → w.leads ≡ false → eqb v.location d.source && guardsb r e.guards ≡ false → way_rows w ≡ edge_rows c e r
-  unfolding way_rows edge_rows
-  no_way w h f = rw h (sym (select_none (leadsb c e r) (rows_at c e.target) (λ x m. fails (leadsb c e r x) (led_law c e r x) (λ l. shut l.0.0.0.0 l.0.0.1))))
+  pub no_way : eqb v.location d.source && guardsb r e.guards ≡ false → [] ≡ edge_rows c e r
+  unfolding edge_rows
+  no_way f = sym (select_none (leadsb c e r) (rows_at c e.target) (λ x m. fails (leadsb c e r x) (led_law c e r x) (λ l. shut l.0.0.0.0 l.0.0.1)))
     where
       shut : v.location ≡ d.source → guardsb r e.guards ≡ true → ⊥
       shut p q = refutes (eqb v.location d.source && guardsb r e.guards) (and_law _ _ (eqb_law v.location d.source) (λ h. h, λ h. h)) f (p, q)
 
+  -- it leaves from it
+  pub taken : eqb v.location d.source && guardsb r e.guards ≡ true → (v.location ≡ d.source) × (guardsb r e.guards ≡ true)
+  taken = (and_law _ _ (eqb_law v.location d.source) (λ h. h, λ h. h)).0
+
   -- with the edge's moves
   module _ (ms : Moves) (M : MovesOf c e r ms) where
-    abbrev s : Search
-    s = record { clocks = k; moves = ms }
-
-    tops : (z : ℕ) → z < n → (get_or ms.each z still).top ≡ 2 * at k.bounds z + 1
+    pub tops : (z : ℕ) → z < n → (get_or ms.each z still).top ≡ 2 * at k.bounds z + 1
     tops z l =
         ap (λ m. m.top) (M.each z (omega (arith, clocks_count))) ∙ move_top c r z (get_or e.updates z idle)
         ∙ ap (λ (b : ℕ). 2 * b + 1) (at_take n k.bounds z l)
@@ -99,8 +99,13 @@ module _ (k : Clocks) (few : Few k) (four : length k.bounds ≡ 4) (v : Region) 
     pub low_tops : (z : ℕ) → z < n → (get_or ms.each z still).top < 65535
     low_tops z l = omega (arith, tops z l, few.low z)
 
-    pub way_ready : Ready s
-    way_ready = record { few = few; few_ranks = omega (arith, M.ranks, few_ranks c r row, clocks_count, few.few); tops = tops }
+    pub ranks_few : ms.ranks ≤ 4
+    ranks_few = omega (arith, M.ranks, few_ranks c r row, clocks_count, few.few)
+
+  -- what is sought there, whatever the proofs that its ranks are few and what its tops are
+  module _ (ms : Moves) (M : MovesOf c e r ms) (low_ranks : ms.ranks ≤ 4) (tops_are : (z : ℕ) → z < n → (get_or ms.each z still).top ≡ 2 * at k.bounds z + 1) where
+    abbrev s : Search
+    s = record { clocks = k; moves = ms; few_ranks = low_ranks; tops = tops_are }
 
     placed_is : (x : Row) → IsRow c x → allowsb s x ≡ placedb c e r x
     placed_is x i =
@@ -116,26 +121,26 @@ module _ (k : Clocks) (few : Few k) (four : length k.bounds ≡ 4) (v : Region) 
         permit z l =
             let m = get_or ms.each z still in
             let j : ℕ = at x.intervals z in
-            let top : j ≤ m.top = omega (arith, i.in_range z (omega (arith, clocks_count)), at_take n k.bounds z l, tops z l) in
+            let top : j ≤ m.top = omega (arith, i.in_range z (omega (arith, clocks_count)), at_take n k.bounds z l, tops_are z l) in
             let p : permitsb m j ≡ true = placed_permits ms.each ms.ranks n x.intervals x.ranks a z l in
             let low : least (permitsb m) (m.top + 1 - 0) 0 ≤ j = (least_is (permitsb m) (m.top + 1 - 0) 0).first j (omega arith) (omega arith) p in
             (leb_law (least (permitsb m) (m.top + 1 - 0) 0) m.top).1 (omega arith)
 
-    pub way_is : (b : Bool) → b ≡ allb n (some_permitted ms.each) → v.location ≡ d.source → guardsb r e.guards ≡ true
-        → way_rows (record { leads = b; target = d.target; search = s }) ≡ edge_rows c e r
-    unfolding way_rows edge_rows
-    way_is b f leaves guarded = go b f
-      where
-        row_out : (x : Row) → Mem x (rows_at c e.target) → (x.location ≡ e.target) × IsRow c x
-        row_out = rows_at_out c e.target
+    module _ (leaves : v.location ≡ d.source) (guarded : guardsb r e.guards ≡ true) where
+      row_out : (x : Row) → Mem x (rows_at c e.target) → (x.location ≡ e.target) × IsRow c x
+      row_out = rows_at_out c e.target
 
-        led : (x : Row) → Mem x (rows_at c e.target) → allowsb s x ≡ leadsb c e r x
-        led x m = by (allowsb s x) refl
-          where
-            by : (b : Bool) → allowsb s x ≡ b → b ≡ leadsb c e r x
-            by true a = sym ((led_law c e r x).1 ((((leaves, (row_out x m).0), guarded), (row_out x m).1), sym (placed_is x (row_out x m).1) ∙ a))
-            by false a = sym (fails (leadsb c e r x) (led_law c e r x) (λ l. never (sym a ∙ placed_is x (row_out x m).1 ∙ l.1)))
+      led : (x : Row) → Mem x (rows_at c e.target) → allowsb s x ≡ leadsb c e r x
+      led x m = by (allowsb s x) refl
+        where
+          by : (b : Bool) → allowsb s x ≡ b → b ≡ leadsb c e r x
+          by true a = sym ((led_law c e r x).1 ((((leaves, (row_out x m).0), guarded), (row_out x m).1), sym (placed_is x (row_out x m).1) ∙ a))
+          by false a = sym (fails (leadsb c e r x) (led_law c e r x) (λ l. never (sym a ∙ placed_is x (row_out x m).1 ∙ l.1)))
 
-        go : (b : Bool) → b ≡ allb n (some_permitted ms.each) → cond b (select (allowsb s) (rows_at c d.target)) [] ≡ select (leadsb c e r) (rows_at c e.target)
-        go true f = select_same (allowsb s) (leadsb c e r) (rows_at c e.target) led
-        go false f = sym (select_none (leadsb c e r) (rows_at c e.target) (λ x m. sym (led x m) ∙ fails (allowsb s x) (λ h. h, λ h. h) (none_allowed (sym f) x (row_out x m).1)))
+      pub way_is : rows_on (record { target = d.target; search = s }) ≡ edge_rows c e r
+      unfolding rows_on edge_rows
+      way_is = select_same (allowsb s) (leadsb c e r) (rows_at c e.target) led
+
+      pub way_shut : allb n (some_permitted ms.each) ≡ false → [] ≡ edge_rows c e r
+      unfolding edge_rows
+      way_shut f = sym (select_none (leadsb c e r) (rows_at c e.target) (λ x m. sym (led x m) ∙ fails (allowsb s x) (λ h. h, λ h. h) (none_allowed f x (row_out x m).1)))

@@ -11,33 +11,34 @@ use mathlib.Core.List.{List, [], ◌∷◌}
 use lib.ListN.{length, length-append}
 use lib.Dec.{eqb, leb}
 use lib.Seq.{get_or-take, length-take-le}
-use borrow.Author.Tests.{lt-leb}
+use borrow.Author.Tests.{le-leb, lt-leb}
 use Rattle.automata.specs.Clocks.{at}
 use Rattle.automata.specs.Row.{Row, IsRow}
 use Rattle.automata.specs.Closed.{Mem}
 use Rattle.automata.specs.Wait.{wait}
-use Rattle.automata.specs.Successors.{held, wait_rows, guardsb}
+use Rattle.automata.specs.Successors.{held, wait_rows, guardsb, leadsb, edge_rows}
+use Rattle.automata.specs.Rows.{rows_at}
 use Rattle.edge_walk.specs.Choice.{Ready}
-use Rattle.edge_walk.specs.Way.{way_rows}
+use Rattle.edge_walk.specs.Way.{rows_on}
 use Rattle.edge_walk.specs.declared.way.Way.{Way}
 use Rattle.regions.specs.Values.{Few, bounds_of, row_of, edge_of, sought, found_of}
-use Rattle.regions.specs.declared.region.Clocks as clocks_code
+use Rattle.regions.specs.declared.clocks.Clocks as clocks_code
 use Rattle.regions.specs.declared.region.Region.{Region}
-use Rattle.regions.specs.declared.region.Sought.{Sought}
+use Rattle.std.specs.declared.option.Option as option_code
+use Rattle.std.specs.Prelude.{None, Some, is_some}
 use Rattle.regions.specs.declared.edge.Edge as edge_code
-use Rattle.automata.proofs.Laws.Tests.{never, true_or_false, leb_law, says, same_test}
+use Rattle.automata.proofs.Laws.Tests.{never, leb_law, says, same_test}
 use Rattle.automata.proofs.Laws.Waiting.{wait_row}
 use Rattle.automata.proofs.Laws.Successors.{edge_rows_law}
 use Rattle.regions.proofs.Laws.Values.{found_sought}
-use Rattle.edge_walk.proofs.Laws.Way.{no_way}
-use Rattle.edge_walk.proofs.Laws.Along.{none_on, on_start}
-use Rattle.table_files.specs.Answer.{Answer, refused}
+use Rattle.edge_walk.proofs.Laws.Way.{select_none}
+use Rattle.edge_walk.proofs.Laws.Along.{on_start}
+use Rattle.table_files.specs.Answer.{Answer, accepted, refused}
 use Rattle.calls.specs.RegionFile.{row_width, row_bytes, rows_bytes}
 use Rattle.calls.proofs.Laws.Rows.{row_width_is}
 use Rattle.following.specs.Following.{Stands, Leaves, rows_waited, rows_led, row_found, fits, told, put}
 use Rattle.following.specs.Writing.{Low}
 use Rattle.following.proofs.Laws.Put.{one_long}
-use Rattle.following.proofs.Laws.Taking.{no_rows}
 
 -- rows of n clocks, whose intervals are bytes --------------------------------------------------------------------------------------
 
@@ -73,14 +74,10 @@ module _ (k : clocks_code.Clocks) (four : length k.bounds ≡ 4) (few : Few k) (
 
 -- the rows on a way
 module _ (w : Way) (ready : Ready w.search) (four : length w.search.clocks.bounds ≡ 4) (low : Low w.search.clocks) where
-  way_long : length (rows_bytes (way_rows w)) ≡ length (way_rows w) * row_width w.search.clocks.count
-  way_long = rows_long w.search.clocks.count (way_rows w) (λ r m. row_sized w.search.clocks four ready.few low r (go r m (true_or_false w.leads)))
-    where
-      go : (r : Row) → Mem r (way_rows w) → (w.leads ≡ true) ⊎ (w.leads ≡ false) → IsRow (bounds_of w.search.clocks) r
-      go r m (inl t) = (on_start w ready t r m).held.is_row
-      go r m (inr f) = absurd (none_on w ready f r m)
+  way_long : length (rows_bytes (rows_on w)) ≡ length (rows_on w) * row_width w.search.clocks.count
+  way_long = rows_long w.search.clocks.count (rows_on w) (λ r m. row_sized w.search.clocks four ready.few low r (on_start w ready r m).held.is_row)
 
-  pub way_fits : (count room : ℕ) (t : Bool) → count ≡ length (way_rows w) → t ≡ leb (count * row_width w.search.clocks.count) room → t ≡ fits (way_rows w) room
+  pub way_fits : (count room : ℕ) (t : Bool) → count ≡ length (rows_on w) → t ≡ leb (count * row_width w.search.clocks.count) room → t ≡ fits (rows_on w) room
   way_fits count room t n e = e ∙ ap (λ (i : ℕ). leb i room) (ap (λ (i : ℕ). i * row_width w.search.clocks.count) n ∙ sym way_long)
 
 -- whether they fit -----------------------------------------------------------------------------------------------------------------
@@ -112,25 +109,20 @@ Done rows o given after = record { answer : given ≡ told (fits rows (length o)
 pub not_fitted : (rows : List Row) (o : List ℕ) → false ≡ fits rows (length o) → Done rows o (refused 19 0) o
 not_fitted rows o e = rw (← e) (record { answer = refl; buffer = refl })
 
+pub nothing_done : (rows : List Row) (o : List ℕ) → [] ≡ rows → Done rows o (accepted 0) o
+nothing_done rows o e = rw (← e, le-leb 0 (length o) (omega arith)) (record { answer = refl; buffer = refl })
+
 -- one row or none
-module _ (n : ℕ) (next : Sought) where
-  row_is : next.found ≡ true → row_found n next ≡ row_of n next.region ∷ []
-  row_is f = go next.found f
-    where
-      go : (b : Bool) → b ≡ true → row_found n (record { found = b; region = next.region }) ≡ row_of n next.region ∷ []
-      go true e = refl
-      go false e = never e
-
+module _ (n : ℕ) where
   -- its region can be written
-  pub narrow_row : ((r : Row) → Mem r (row_found n next) → Sized n r) → next.found ≡ true → (z : ℕ) → z < n → at next.region.intervals z < 256
-  narrow_row h f z l = rw (get_or-take n next.region.intervals z 0 l) at ((h (row_of n next.region) (subst (λ (rows : List Row). Mem (row_of n next.region) rows) (sym (row_is f)) (Memᴰ.head refl))).narrow z l)
+  pub narrow_row : (next : option_code.Option Region) → ((r : Row) → Mem r (row_found n next) → Sized n r) → (region : Region) → next ≡ Some region
+      → (z : ℕ) → z < n → at region.intervals z < 256
+  narrow_row (Some v) h region e z l =
+      rw (get_or-take n region.intervals z 0 l) at ((h (row_of n region) (subst (λ (o : option_code.Option Region). Mem (row_of n region) (row_found n o)) (sym e) (Memᴰ.head refl))).narrow z l)
+  narrow_row None h region e z l = never (ap is_some e)
 
-  module _ (few : n ≤ 4) (p : length next.region.intervals ≡ 4) (q : length next.region.ranks ≡ 4) (f : next.found ≡ true) where
-    long : length (rows_bytes (row_found n next)) ≡ row_width n
-    long = ap (λ (l : List Row). length (rows_bytes l)) (row_is f) ∙ one_long n few next.region p q
-
-    pub short_done : (o : List ℕ) → length o < row_width n → Done (row_found n next) o (refused 19 0) o
-    short_done o h = not_fitted (row_found n next) o (sym (lt-leb (length (rows_bytes (row_found n next))) (length o) (omega (arith, long))))
+  pub short_done : n ≤ 4 → (v : Region) → length v.intervals ≡ 4 → length v.ranks ≡ 4 → (o : List ℕ) → length o < row_width n → Done (row_of n v ∷ []) o (refused 19 0) o
+  short_done few v p q o h = not_fitted (row_of n v ∷ []) o (sym (lt-leb (length (rows_bytes (row_of n v ∷ []))) (length o) (omega (arith, one_long n few v p q))))
 
 -- the rows of an edge and of a wait ----------------------------------------------------------------------------------------------
 
@@ -139,7 +131,7 @@ module _ (k : clocks_code.Clocks) (four : length k.bounds ≡ 4) (r : Region) (S
   led_sized e E s m = row_sized k four S.few S.low s ((edge_rows_law (bounds_of k) (edge_of k.count e) (row_of k.count r) s S.is_row E.bounded).0 m).is_row
 
   -- by waiting
-  module _ (next : Sought) (e : next ≡ sought (wait (bounds_of k) (row_of k.count r))) where
+  module _ (next : option_code.Option Region) (e : next ≡ sought (wait (bounds_of k) (row_of k.count r))) where
     sized : (s : Row) → wait (bounds_of k) (row_of k.count r) ≡ some s → Sized k.count s
     sized s p = row_sized k four S.few S.low s (wait_row (bounds_of k) (row_of k.count r) s S.is_row p)
 
@@ -162,8 +154,14 @@ module _ (k : clocks_code.Clocks) (four : length k.bounds ≡ 4) (r : Region) (S
             here (inr j) = absurd (Memᴰ.not-nil j)
 
   -- by an edge that cannot be taken
-  pub no_image : (e : edge_code.Edge) → Leaves k e → eqb r.location e.source && guardsb (row_of k.count r) (edge_of k.count e).guards ≡ false
-      → (next : Sought) → next ≡ sought none → rows_led k e r ≡ row_found k.count next
-  no_image e E f next g =
-      let w : Way = record { leads = false; target = 0; search = record { clocks = k; moves = record { ranks = 0; each = [] } } } in
-      sym (no_way k S.few four r S.is_row e E.bounded w refl f) ∙ no_rows w refl ∙ sym (ap (row_found k.count) g)
+  pub no_image : (e : edge_code.Edge) → Leaves k e → eqb r.location e.source && guardsb (row_of k.count r) (edge_of k.count e).guards ≡ false → rows_led k e r ≡ []
+  unfolding edge_rows leadsb
+  no_image e E f =
+      select_none (leadsb (bounds_of k) (edge_of k.count e) (row_of k.count r)) (rows_at (bounds_of k) e.target)
+      (λ x m. go (eqb r.location e.source) (guardsb (row_of k.count r) (edge_of k.count e).guards) f _ _ _)
+    where
+      go : (a g : Bool) → a && g ≡ false → (b i p : Bool) → (((a && b) && g) && i) && p ≡ false
+      go false g e b i p = refl
+      go true false e true i p = refl
+      go true false e false i p = refl
+      go true true e b i p = never (sym e)

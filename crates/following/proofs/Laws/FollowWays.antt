@@ -1,7 +1,7 @@
 -- The follower's ways out: each is the definitions'. Assumes nothing.
 use Prim.Native.Nat.{ℕ, ◌+◌, ◌-◌, ◌≤◌, ◌<◌}
 use native.Mathlib.Omega.{arith}
-use mathlib.Core.Path.{◌≡◌, refl, sym, ap, ◌∙◌}
+use mathlib.Core.Path.{◌≡◌, refl, sym, ap, subst, ◌∙◌}
 use mathlib.Core.Bool.{Bool, true, false, ◌||◌}
 use mathlib.Core.Logic.{inl, inr}
 use mathlib.Core.List.Memᴰ
@@ -21,23 +21,26 @@ use Rattle.automata.proofs.Laws.Tests.{eqb_law, ltb_law, or_law}
 use Rattle.automata.proofs.Laws.Next.{time_successors_are, edge_successors_are}
 use Rattle.table_files.specs.Answer.{Answer, accepted, refused}
 use Rattle.table_files.specs.Reading.{Read, good, bad, Reader, carry, require, end, answered}
-use Rattle.table_files.specs.Admission.{admitted, record_count, admission, table_of}
+use Rattle.table_files.specs.Admission.{table_of}
 use Rattle.table_files.specs.Meaning.{Limits}
-use Rattle.tables.specs.Values.{Describes, Opens}
+use Rattle.tables.specs.Tables.{Opens}
+use Rattle.tables.specs.Values.{Describes}
 use Rattle.table_records.specs.declared.head.Head.{Head}
-use Rattle.table_records.specs.declared.head.Opened.{Opened}
+use Rattle.table_records.specs.declared.refusal.Fault.{Fault}
+use Rattle.table_records.specs.declared.refusal.Refusal.{Refusal}
+use Rattle.table_records.specs.Refusal.{number_of}
 use Rattle.table_files.proofs.Laws.Reading.{goes, passes}
 use Rattle.table_files.proofs.Laws.Admission.{admission_read, admission_admitted, admission_limits}
 use Rattle.calls.specs.RegionFile.{row_width}
 use Rattle.calls.specs.Follow.{followed, rows_followed, following, follow_answer, written, follow_buffer}
-use Rattle.calls.specs.Meaning.{Small, Written}
+use Rattle.calls.specs.Meaning.{Written}
 use Rattle.rows.specs.Row.{ReadsRow}
 use Rattle.following.specs.Following.{Stands, Leaves, rows_waited, rows_led, fits, told, put, FirstAfter, Stays}
-use Rattle.rows.specs.declared.row.RowRead.{RowRead}
-use Rattle.rows.proofs.Laws.RowRecords.{reads_good, reads_row, reads_bad}
+use Rattle.regions.specs.declared.region.Region.{Region}
+use Rattle.std.specs.Prelude.{Result, Ok, Err, MatchResult, IsErrAnd}
+use Rattle.rows.proofs.Laws.RowRecords.{reads_good, reads_row}
 use Rattle.calls.proofs.Laws.Rows.{row_alone}
 use Rattle.calls.proofs.Laws.Follow.{follow_law}
-use Rattle.calls.proofs.Laws.SmallAnswers.{admission_small}
 use Rattle.calls.proofs.Laws.Claims.{waiting_first, waiting_last}
 use Rattle.following.proofs.Laws.FollowRows.{Done}
 
@@ -100,24 +103,29 @@ module _ (table row : List ℕ) (number : ℕ) (lent : List ℕ) where
   refusing : (n p : ℕ) → following table row number lent ≡ bad n p → Follower table row number lent (refused n p) lent
   refusing n p e = promised (refused n p) lent (bad n p) e refl refl
 
+-- what is promised of a file is promised of the same file by another name
+pub same_table : {file table : List ℕ} → file ≡ table → {row : List ℕ} {number : ℕ} {lent : List ℕ} {given : Answer} {after : List ℕ}
+    → Follower file row number lent given after → Follower table row number lent given after
+same_table e {row} {number} {lent} {given} {after} = subst (λ (f : List ℕ). Follower f row number lent given after) e
+
+-- a row that was read; or the reader's fault, which the refusal is for
+module _ (P : Fault → Refusal → Type 0) (T : Table) (row : List ℕ) where
+  abbrev pub Told : Result Region Refusal → Type 0
+  Told (Ok region) = ReadsRow T row 0 (Ok region)
+  Told (Err e) = (fault : Fault) × ReadsRow T row 0 (Err fault) × P fault e
+
+  pub told_by : (s : Result Region Fault) (t : Result Region Refusal) → ReadsRow T row 0 s → MatchResult s (λ region. t ≡ Ok region) (λ fault. IsErrAnd t (P fault)) → Told t
+  told_by (Ok region) t R h = subst Told (sym h) R
+  told_by (Err fault) (Ok region) R h = absurd h
+  told_by (Err fault) (Err e) R h = (fault, R, h)
+
 -- the table ----------------------------------------------------------------------------------------------------------------------
 
-module _ (table : List ℕ) (o : Opened) (O : Opens table o) where
-  pub not_admitted : (row : List ℕ) (number : ℕ) (lent : List ℕ) → (o.number ≡ 0 → ⊥) → Follower table row number lent (refused o.number o.place) lent
-  unfolding following
-  not_admitted row number lent h = go (admitted table) refl
-    where
-      go : (r : Read Table) → admitted table ≡ r → Follower table row number lent (refused o.number o.place) lent
-      go (good T rest) e = absurd (h (rw e at O).0)
-      go (bad n p) e = let (i, j) = rw e at O in refusing table row number lent o.number o.place (stops _ _ _ _ e ∙ (λ k. bad (sym i k) (sym j k)))
-
-  pub described : o.number ≡ 0 → Describes table o.head
-  unfolding admission
-  described z = go (admitted table) refl (admission_small table)
-    where
-      go : (r : Read Table) → admitted table ≡ r → Small (answered record_count (admitted table)) → Describes table o.head
-      go (good T rest) e s = (rw e at O).1
-      go (bad n p) e s = let i = (rw e at O).0 in let t = rw e at s in absurd (omega (arith, i, t.0))
+-- it is not admitted
+pub not_admitted : (table : List ℕ) (e : Refusal) → Opens table (Err e) → (row : List ℕ) (number : ℕ) (lent : List ℕ)
+    → Follower table row number lent (refused (number_of e.fault) e.place) lent
+unfolding following
+not_admitted table e O row number lent = refusing table row number lent (number_of e.fault) e.place (stops _ _ _ _ O)
 
 module _ {table : List ℕ} {head : Head} (D : Describes table head) where
   abbrev T : Table
@@ -130,10 +138,20 @@ module _ {table : List ℕ} {head : Head} (D : Describes table head) where
   pub leaves : {number : ℕ} (e : edge_code.Edge) → number < head.edges → edge_of head.clocks.count e ≡ edge T number → e.guard_count ≤ 8 → Leaves head.clocks e
   leaves {number} e l m g = record { few_guards = g; bounded = rw (m, D.bounds) (let (k, p) = D.passes in (admission_admitted table k p).bounded number (omega (arith, D.edges))) }
 
+  past_table : (row : List ℕ) (number : ℕ) (lent : List ℕ) → following table row number lent ≡ rows_followed T number (length lent) row
+  unfolding following
+  past_table row number lent = let (k, p) = D.passes in let (rest, e, _) = admission_read table k p in goes _ _ T rest e
+
   -- the row ----------------------------------------------------------------------------------------------------------------------
-  module _ (row : List ℕ) (r : RowRead) (R : ReadsRow T row 0 r) where
+  -- it is not one of the table's
+  pub row_refused : (row : List ℕ) (number : ℕ) (lent : List ℕ) (fault : Fault) → ReadsRow T row 0 (Err fault)
+      → Follower table row number lent (refused (number_of fault) 0) lent
+  unfolding rows_followed
+  row_refused row number lent fault R = refusing table row number lent (number_of fault) 0 (past_table row number lent ∙ stops _ _ _ _ (R 0))
+
+  module _ (row : List ℕ) (region : Region) (R : ReadsRow T row 0 (Ok region)) where
     abbrev from : Row
-    from = row_of (clocks T) r.region
+    from = row_of (clocks T) region
 
     abbrev left : List ℕ
     left = drop (0 + row_width (clocks T)) row
@@ -141,69 +159,60 @@ module _ {table : List ℕ} {head : Head} (D : Describes table head) where
     left_long : length left ≡ length row - (row_width head.clocks.count)
     left_long = simp length-drop (omega (arith, ap row_width D.count))
 
-    pub stands : r.number ≡ 0 → Stands head.clocks r.region
-    stands z = record {
+    pub stands : Stands head.clocks region
+    stands = record {
       few = D.few;
       low = λ z h. omega (arith, limits.low_bounds z (omega (arith, D.count)), ap (λ (c : List ℕ). at c z) D.bounds, get_or-take head.clocks.count head.clocks.bounds z 0 h);
-      is_row = rw (D.bounds, D.count) (reads_row T row 0 r R z).is_row;
+      is_row = rw (D.bounds, D.count) (reads_row T row 0 region R).is_row;
     }
 
     module _ (number : ℕ) (lent : List ℕ) where
-      past_table : following table row number lent ≡ rows_followed T number (length lent) row
-      unfolding following
-      past_table = let (k, p) = D.passes in let (rest, e, _) = admission_read table k p in goes _ _ T rest e
-
-      pub row_refused : (r.number ≡ 0 → ⊥) → Follower table row number lent (refused r.number 0) lent
+      pub bytes_follow : row_width head.clocks.count < length row → Follower table row number lent (refused 9 1) lent
       unfolding rows_followed
-      row_refused h = refusing table row number lent r.number 0 (past_table ∙ stops _ _ _ _ (reads_bad T row 0 r R h 0))
+      bytes_follow h =
+          refusing table row number lent 9 1 (past_table row number lent ∙ goes _ _ from left (reads_good T row 0 region R 0) ∙ stops _ _ _ _ (bytes_left 9 1 left (omega (arith, left_long))))
 
-      module _ (z : r.number ≡ 0) where
-        pub bytes_follow : row_width head.clocks.count < length row → Follower table row number lent (refused 9 1) lent
+      module _ (whole : length row ≤ row_width head.clocks.count) where
+        no_left : end 9 1 left ≡ good tt left
+        no_left = no_bytes_left 9 1 left (omega (arith, left_long))
+
+        pub neither : head.edges ≤ number → (number ≡ 65535 → ⊥) → Follower table row number lent (refused 18 0) lent
         unfolding rows_followed
-        bytes_follow h =
-            refusing table row number lent 9 1 (past_table ∙ goes _ _ from left (reads_good T row 0 r R z 0) ∙ stops _ _ _ _ (bytes_left 9 1 left (omega (arith, left_long))))
+        neither h n =
+            let out : (ltb number (length T.edges) || eqb number 65535) ≡ false =
+            rw (le-ltb number (length T.edges) (omega (arith, D.edges)), ne_eqb number 65535 n) in
+            refusing table row number lent 18 0 (past_table row number lent ∙ goes _ _ from left (reads_good T row 0 region R 0) ∙ goes _ _ tt left no_left ∙ stops _ _ _ _ (fails_test 18 0 _ left out))
 
-        module _ (whole : length row ≤ row_width head.clocks.count) where
-          no_left : end 9 1 left ≡ good tt left
-          no_left = no_bytes_left 9 1 left (omega (arith, left_long))
+        -- the next rows ------------------------------------------------------------------------------------------------------
+        done_so : (given : Answer) (after : List ℕ) → (ltb number (length T.edges) || eqb number 65535) ≡ true
+            → Done (followed T number from) lent given after → Follower table row number lent given after
+        unfolding rows_followed
+        done_so given after test d = go (fits (followed T number from) (length lent)) refl d.answer d.buffer
+          where
+            go : (t : Bool) → fits (followed T number from) (length lent) ≡ t → given ≡ told t (followed T number from)
+                → after ≡ put t (followed T number from) lent → Follower table row number lent given after
+            go true e a b =
+                promised table row number lent given after (good (followed T number from) left)
+                (past_table row number lent ∙ goes _ _ from left (reads_good T row 0 region R 0) ∙ goes _ _ tt left no_left ∙ goes _ _ tt left (passes 18 0 _ left test) ∙ goes _ _ tt left (passes 19 0 _ left e))
+                a b
+            go false e a b =
+                promised table row number lent given after (bad 19 0)
+                (past_table row number lent ∙ goes _ _ from left (reads_good T row 0 region R 0) ∙ goes _ _ tt left no_left ∙ goes _ _ tt left (passes 18 0 _ left test) ∙ stops _ _ _ _ (fails_test 19 0 _ left e))
+                a b
 
-          pub neither : head.edges ≤ number → (number ≡ 65535 → ⊥) → Follower table row number lent (refused 18 0) lent
-          unfolding rows_followed
-          neither h n =
-              let out : (ltb number (length T.edges) || eqb number 65535) ≡ false =
-              rw (le-ltb number (length T.edges) (omega (arith, D.edges)), ne_eqb number 65535 n) in
-              refusing table row number lent 18 0 (past_table ∙ goes _ _ from left (reads_good T row 0 r R z 0) ∙ goes _ _ tt left no_left ∙ stops _ _ _ _ (fails_test 18 0 _ left out))
+        pub by_waiting : (given : Answer) (after : List ℕ) → number ≡ 65535 → Done (rows_waited head.clocks region) lent given after
+            → Follower table row number lent given after
+        unfolding followed
+        by_waiting given after n d =
+            let same : rows_waited head.clocks region ≡ followed T number from =
+            rw (eq-eqb number 65535 n) ((λ i. wait_rows (D.bounds i) (row_of (D.count i) region)) ∙ sym (time_successors_are T from)) in
+            done_so given after ((or_law _ _ (ltb_law number (length T.edges)) (eqb_law number 65535)).1 (inr n)) (rw same at d)
 
-          -- the next rows ------------------------------------------------------------------------------------------------------
-          done_so : (given : Answer) (after : List ℕ) → (ltb number (length T.edges) || eqb number 65535) ≡ true
-              → Done (followed T number from) lent given after → Follower table row number lent given after
-          unfolding rows_followed
-          done_so given after test d = go (fits (followed T number from) (length lent)) refl d.answer d.buffer
-            where
-              go : (t : Bool) → fits (followed T number from) (length lent) ≡ t → given ≡ told t (followed T number from)
-                  → after ≡ put t (followed T number from) lent → Follower table row number lent given after
-              go true e a b =
-                  promised table row number lent given after (good (followed T number from) left)
-                  (past_table ∙ goes _ _ from left (reads_good T row 0 r R z 0) ∙ goes _ _ tt left no_left ∙ goes _ _ tt left (passes 18 0 _ left test) ∙ goes _ _ tt left (passes 19 0 _ left e))
-                  a b
-              go false e a b =
-                  promised table row number lent given after (bad 19 0)
-                  (past_table ∙ goes _ _ from left (reads_good T row 0 r R z 0) ∙ goes _ _ tt left no_left ∙ goes _ _ tt left (passes 18 0 _ left test) ∙ stops _ _ _ _ (fails_test 19 0 _ left e))
-                  a b
-
-          pub by_waiting : (given : Answer) (after : List ℕ) → number ≡ 65535 → Done (rows_waited head.clocks r.region) lent given after
-              → Follower table row number lent given after
-          unfolding followed
-          by_waiting given after n d =
-              let same : rows_waited head.clocks r.region ≡ followed T number from =
-              rw (eq-eqb number 65535 n) ((λ i. wait_rows (D.bounds i) (row_of (D.count i) r.region)) ∙ sym (time_successors_are T from)) in
-              done_so given after ((or_law _ _ (ltb_law number (length T.edges)) (eqb_law number 65535)).1 (inr n)) (rw same at d)
-
-          pub by_edge : (e : edge_code.Edge) → number < head.edges → edge_of head.clocks.count e ≡ edge T number → (given : Answer) (after : List ℕ)
-              → Done (rows_led head.clocks e r.region) lent given after → Follower table row number lent given after
-          unfolding followed
-          by_edge e l m given after d =
-              let not_waiting : number ≡ 65535 → ⊥ = λ n. omega (arith, n, l, D.edges, limits.few_edges) in
-              let same : rows_led head.clocks e r.region ≡ followed T number from =
-              rw (ne_eqb number 65535 not_waiting) ((λ i. edge_rows (D.bounds i) (m i) (row_of (D.count i) r.region)) ∙ sym (edge_successors_are T number from)) in
-              done_so given after ((or_law _ _ (ltb_law number (length T.edges)) (eqb_law number 65535)).1 (inl (omega (arith, D.edges)))) (rw same at d)
+        pub by_edge : (e : edge_code.Edge) → number < head.edges → edge_of head.clocks.count e ≡ edge T number → (given : Answer) (after : List ℕ)
+            → Done (rows_led head.clocks e region) lent given after → Follower table row number lent given after
+        unfolding followed
+        by_edge e l m given after d =
+            let not_waiting : number ≡ 65535 → ⊥ = λ n. omega (arith, n, l, D.edges, limits.few_edges) in
+            let same : rows_led head.clocks e region ≡ followed T number from =
+            rw (ne_eqb number 65535 not_waiting) ((λ i. edge_rows (D.bounds i) (m i) (row_of (D.count i) region)) ∙ sym (edge_successors_are T number from)) in
+            done_so given after ((or_law _ _ (ltb_law number (length T.edges)) (eqb_law number 65535)).1 (inl (omega (arith, D.edges)))) (rw same at d)

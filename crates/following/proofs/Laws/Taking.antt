@@ -16,8 +16,8 @@ use Rattle.regions.specs.Order.{numbers}
 use Rattle.edge_walk.specs.Choice.{Candidate, Ready, numbers_of}
 use Rattle.edge_walk.specs.Stand.{start, Begun, Later, Ahead, Standing, Advance}
 use Rattle.edge_walk.specs.Intervals.{Chosen}
-use Rattle.edge_walk.specs.Way.{way_rows}
-use Rattle.edge_walk.specs.declared.choice.Search.{Search}
+use Rattle.edge_walk.specs.Way.{rows_on}
+use Rattle.edge_walk.specs.declared.search.Search.{Search}
 use Rattle.edge_walk.specs.declared.stand.Stand.{Stand}
 use Rattle.edge_walk.specs.declared.way.Way.{Way}
 use Rattle.calls.specs.RegionFile.{rows_bytes}
@@ -146,32 +146,25 @@ pub record Taken (rows : List Row) (s : Search) (a : Stand) (o buffer : List ℕ
 
 -- the rows of the way that a walk goes along which began there
 abbrev pub rows_from : Search → Stand → List Row
-rows_from s a = way_rows (record { leads = true; target = a.part.location; search = s })
-
-pub no_rows : (w : Way) → w.leads ≡ false → way_rows w ≡ []
-unfolding way_rows
-no_rows w h = rw h
+rows_from s a = rows_on (record { target = a.part.location; search = s })
 
 module _ (w : Way) (a : Stand) (e : a ≡ start w.target) where
-  pub from_way : w.leads ≡ true → rows_from w.search a ≡ way_rows w
-  unfolding way_rows
-  from_way leads = rw (e, leads)
+  pub from_way : rows_from w.search a ≡ rows_on w
+  from_way = ap (rows_from w.search) e
 
   pub none_taken : Ready w.search → (o : List ℕ) → Taken (rows_from w.search a) w.search a o o 0
-  none_taken ready o = subst (λ (b : Stand). Taken (rows_from w.search b) w.search b o o 0) (sym e) (begun (record { leads = true; target = w.target; search = w.search }) ready refl)
-    where
-      begun : (v : Way) (ready : Ready v.search) → v.leads ≡ true → Taken (way_rows v) v.search (start v.target) o o 0
-      begun v ready leads = record {
+  none_taken ready o =
+      subst (λ (b : Stand). Taken (rows_from w.search b) w.search b o o 0) (sym e) (record {
         front = [];
-        rest = way_rows v;
+        rest = rows_on w;
         whole = refl;
-        sorted = way_sorted v ready;
-        to = on_start v ready leads;
-        from = start_on v ready leads;
+        sorted = way_sorted w ready;
+        to = on_start w ready;
+        from = start_on w ready;
         written = put_none o;
-        standing = starts v ready leads;
-        chosen = chosen_start v.search v.target;
-      }
+        standing = starts w ready;
+        chosen = chosen_start w.search w.target;
+      })
 
 module _ (rows : List Row) (s : Search) (ready : Ready s) (bounds : length s.clocks.bounds ≡ 4) (a : Stand) (o buffer : List ℕ) (place : ℕ)
     (T : Taken rows s a o buffer place) where

@@ -18,7 +18,7 @@ use Rattle.rankings.specs.Ranking.{InRange, first_ranking, pattern, rows_ranked}
 use Rattle.rankings.specs.Table.{table}
 use Rattle.rankings.proofs.Laws.Ranking.{in_table}
 use Rattle.edge_walk.specs.Choice.{Ready, allowsb}
-use Rattle.edge_walk.specs.declared.choice.Search.{Search}
+use Rattle.edge_walk.specs.declared.search.Search.{Search}
 use Rattle.ranked_ways.specs.Allowed.{Permitted, parted_at, rows_allowed}
 use Rattle.ranked_ways.specs.Memo.{Kept, marked}
 use Rattle.ranked_ways.proofs.Laws.Memo.{parts_low, place_in, free_known, one_known, two_known, allowed_is, kept_on}

@@ -17,7 +17,7 @@ use Rattle.automata.proofs.Laws.Order.{Tri, is_lt, is_eq, is_gt, tri}
 use Rattle.automata.proofs.Laws.Tests.{refutes}
 use Rattle.automata.proofs.Laws.Checks.{belowb_law, has_law}
 use Rattle.regions.specs.Values.{bounds_of}
-use Rattle.regions.specs.declared.region.Clocks.{Clocks}
+use Rattle.regions.specs.declared.clocks.Clocks.{Clocks}
 use Rattle.calls.specs.RegionFile.{row_width}
 use Rattle.listed_rows.specs.Listed.{listed_row, listed_rows, Listed, Splits}
 use Rattle.listed_rows.proofs.Laws.Listed.{listed_in, in_listed, listed_rise}

@@ -10,7 +10,7 @@ use lib.Seq.{length-take-le, take-append-le, take_at, drop_at, drop-drop, take-t
 use Rattle.automata.specs.Clocks.{at}
 use Rattle.automata.specs.Row.{Row, IsRow}
 use Rattle.regions.specs.Values.{bounds_of, row_of}
-use Rattle.regions.specs.declared.region.Clocks.{Clocks}
+use Rattle.regions.specs.declared.clocks.Clocks.{Clocks}
 use Rattle.regions.specs.declared.region.Region.{Region}
 use Rattle.regions.proofs.Laws.Values.{at_take}
 use Rattle.table_files.specs.Bytes.{two, two_bytes}

@@ -15,7 +15,7 @@ use Rattle.automata.specs.Rankings.{open_clocks, rankings}
 use Rattle.automata.specs.Checks.{same}
 use Rattle.regions.specs.Order.{numbers, shared}
 use Rattle.regions.specs.Values.{bounds_of, row_of}
-use Rattle.regions.specs.declared.region.Clocks.{Clocks}
+use Rattle.regions.specs.declared.clocks.Clocks.{Clocks}
 use Rattle.regions.specs.declared.region.Region.{Region}
 use Rattle.automata.proofs.Laws.Tests.{Says, eqb_law, and_law, refutes}
 use Rattle.automata.proofs.Laws.Checks.{same_law, belowb_law, has_law}

@@ -12,7 +12,7 @@ use Rattle.automata.specs.Automaton.{Table, Admitted}
 use Rattle.automata.specs.Closed.{Mem}
 use Rattle.automata.specs.Kept.{Kept}
 use Rattle.regions.specs.Values.{row_of, bounds_of}
-use Rattle.regions.specs.declared.region.Clocks.{Clocks}
+use Rattle.regions.specs.declared.clocks.Clocks.{Clocks}
 use Rattle.regions.specs.declared.region.Region.{Region}
 use Rattle.calls.specs.RegionFile.{row_width}
 use Rattle.listed_rows.specs.Listed.{listed_row, listed_rows, Splits}

@@ -1,13 +1,15 @@
 -- How work begins: the table is refused, or there is no room, or the initial location is final; else the initial row is the first that is kept. Assumes nothing.
-use Prim.Native.Nat.{ℕ, ◌+◌, ◌%◌, ◌≤◌, ◌<◌}
+use Prim.Native.Nat.{ℕ, ◌+◌, ◌≤◌, ◌<◌}
 use native.Mathlib.Omega.{arith}
 use mathlib.Core.Path.{◌≡◌, refl, sym, ap, subst, ◌∙◌}
-use mathlib.Core.Bool.{Bool, true, false, cond}
+use mathlib.Core.Bool.{Bool, true, false}
 use mathlib.Core.Logic.{◌⊎◌, inl, inr}
 use mathlib.Core.List.Memᴰ
 use mathlib.Core.List.{List, [], ◌∷◌}
 use lib.ListN.{length, replicate, get_or, set, length-set, length-replicate}
 use lib.Seq.{get_or-set_same, get_or-take}
+use Rattle.std.specs.Prelude.{Result, Ok, Err, is_err}
+use Rattle.std.proofs.lemmas.Option.{none-some}
 use Rattle.automata.specs.Clocks.{at}
 use Rattle.automata.specs.Row.{Row, IsRow}
 use Rattle.automata.specs.Automaton.{Table, final, Admitted}
@@ -19,59 +21,33 @@ use Rattle.automata.proofs.Laws.Checks.{has_law}
 use Rattle.regions.specs.Values.{row_of, region_of, bounds_of}
 use Rattle.regions.specs.declared.region.Region.{Region}
 use Rattle.regions.proofs.Laws.Values.{row_region}
-use Rattle.table_files.specs.Answer.{accepted, refused}
-use Rattle.table_files.specs.Reading.{Read, good, bad}
+use Rattle.table_files.specs.Reading.{good, bad}
 use Rattle.table_files.specs.Admission.{admitted, table_of}
 use Rattle.table_files.specs.Meaning.{Limits}
 use Rattle.table_files.proofs.Laws.Admission.{admission_read, admission_admitted, admission_limits}
 use Rattle.table_records.specs.declared.head.Head.{Head}
-use Rattle.table_records.specs.declared.head.Opened.{Opened}
-use Rattle.tables.specs.Values.{Describes, Opens}
+use Rattle.table_records.specs.declared.refusal.Refusal.{Refusal}
+use Rattle.tables.specs.Values.{Describes}
 use Rattle.calls.specs.RegionFile.{row_width, list_bytes}
 use Rattle.calls.specs.Making.{making}
-use borrow.Author.Tests.{ne_eqb}
 use Rattle.listed_rows.specs.Listed.{listed_row, listed_rows, Listed, Splits}
 use Rattle.listed_rows.proofs.Laws.Listed.{in_listed}
 use Rattle.kept_rows.specs.Births.{birth}
 use Rattle.kept_rows.specs.Inserted.{SameRow, Inserted}
 use Rattle.kept_rows.proofs.Laws.Inserted.{inserted_births, inserted_low, inserted_born, inserted_mem, inserted_ascends, inserted_listed}
 use Rattle.making_turns.specs.declared.work.Work as work_code
-use Rattle.making_turns.specs.Work.{blank, told, Followed, Walked, Grown, Tied, Ended, Loops, starting, refusing}
+use Rattle.making_turns.specs.Work.{blank, Followed, Walked, Grown, Tied, Working, Begins, BeginsRows, starting}
+use Rattle.making_turns.proofs.Laws.Ending.{refused_ends}
 use Rattle.automata.proofs.Laws.Kept.{kept_row, kept_is, enters_says}
-use Rattle.calls.proofs.Laws.Making.{Fits, list_bytes_length, make_refused, make_short, make_overfull, make_entered, make_told}
+use Rattle.calls.proofs.Laws.Making.{Fits, list_bytes_length, make_short, make_overfull, make_entered}
 
--- the table is refused ------------------------------------------------------------------------------------------------------------------------
+-- what is refused before work begins --------------------------------------------------------------------------------------------------------
 
-module _ (table : List ℕ) (o : Opened) (h : Opens table o) where
-  if_good : (T : Table) (rest : List ℕ) → admitted table ≡ good T rest → o.number ≡ 0
-  if_good T rest e = (rw e at h).0
-
-  if_bad : (number place : ℕ) → admitted table ≡ bad number place → (o.number ≡ number) × (o.place ≡ place)
-  if_bad number place e = rw e at h
-
-  pub not_opened : (o.number ≡ 0 → ⊥) → admitted table ≡ bad o.number o.place
-  not_opened n = go (admitted table) refl
-    where
-      go : (r : Read Table) → admitted table ≡ r → admitted table ≡ bad o.number o.place
-      go (good T rest) e = absurd (n (if_good T rest e))
-      go (bad number place) e = let (p, q) = if_bad number place e in e ∙ (λ i. bad (sym p i) (sym q i))
-
--- work that ends before it has begun ----------------------------------------------------------------------------------------------------------
-
--- with what the definitions refuse
-refused_ends : {table before : List ℕ} {records : ℕ} (s : work_code.Work) (number place : ℕ) → (number ≡ 0 → ⊥) → making table (length before) records ≡ bad number place
-    → Ended table before records (replicate (length before) 0) (refusing s number place)
-refused_ends {table} {before} {records} s number place n e =
-    let (a, b) = make_told table records before e in
-    record { answer = told_is ∙ sym a; buffer = sym b }
-  where
-    told_is : told (refusing s number place) ≡ refused number place
-    told_is = ap (λ (t : Bool). cond t (accepted (s.count % 65536)) (refused number place)) (ne_eqb number 0 n)
-
--- the table's own refusals
-pub begins_not : {table before : List ℕ} {records : ℕ} (s : work_code.Work) (o : Opened) → Opens table o → (o.number ≡ 0 → ⊥)
-    → Ended table before records (replicate (length before) 0) (refusing s o.number o.place)
-begins_not {table} {before} {records} s o h n = refused_ends s o.number o.place n (make_refused table (length before) records (not_opened table o h n))
+-- the buffer is cleared then
+pub begins_cleared : (table before : List ℕ) (records : ℕ) (lent out : List ℕ) (ws : List Region) (o : Result work_code.Work Refusal) → is_err o ≡ true
+    → BeginsRows table before records lent ws o → out ≡ replicate (length lent) 0 → Begins table before records out ws o
+begins_cleared table before records lent out ws (Ok s) f b cleared = never f
+begins_cleared table before records lent out ws (Err r) f (e, same) cleared = refused_ends r lent e same cleared
 
 module _ {table : List ℕ} {head : Head} (D : Describes table head) where
   abbrev T : Table
@@ -83,20 +59,18 @@ module _ {table : List ℕ} {head : Head} (D : Describes table head) where
   admits : Admitted T
   admits = let (k, p) = D.passes in admission_admitted table k p
 
-  module _ {before : List ℕ} {records : ℕ} (s : work_code.Work) where
+  module _ (before : List ℕ) (records : ℕ) where
     -- too few waiting records
-    pub begins_short : records < 4096 → Ended table before records (replicate (length before) 0) (refusing s 20 0)
-    begins_short h = let (rest, e) = reads in refused_ends s 20 0 (λ q. omega arith) (make_short table e (length before) records (inr (inr h)))
+    pub begins_short : records < 4096 → making table (length before) records ≡ bad 20 0
+    begins_short h = let (rest, e) = reads in make_short table e (length before) records (inr (inr h))
 
     -- no room for the header
-    pub begins_headless : length before < 4 → Ended table before records (replicate (length before) 0) (refusing s 20 0)
-    begins_headless h = let (rest, e) = reads in refused_ends s 20 0 (λ q. omega arith) (make_overfull table e (length before) records [] tt (λ r i. absurd (Memᴰ.not-nil i)) (inr (omega arith)))
+    pub begins_headless : length before < 4 → making table (length before) records ≡ bad 20 0
+    begins_headless h = let (rest, e) = reads in make_overfull table e (length before) records [] tt (λ r i. absurd (Memᴰ.not-nil i)) (inr (omega arith))
 
     -- the initial location is final
-    pub begins_final : 4 ≤ length before → 4096 ≤ records → final T T.initial ≡ true → Ended table before records (replicate (length before) 0) (refusing s 21 0)
-    begins_final room enough f =
-        let (rest, e) = reads in
-        refused_ends s 21 0 (λ q. omega arith) (make_entered table e (length before) records fits (ap (enters T) none ∙ (enters_says T []).1 (inl f)))
+    pub begins_final : 4 ≤ length before → 4096 ≤ records → final T T.initial ≡ true → making table (length before) records ≡ bad 21 0
+    begins_final room enough f = let (rest, e) = reads in make_entered table e (length before) records fits (ap (enters T) none ∙ (enters_says T []).1 (inl f))
       where
         no_row : {r : Row} → Kept T r → ⊥
         no_row (begun o) = never (sym o ∙ f)
@@ -109,10 +83,8 @@ module _ {table : List ℕ} {head : Head} (D : Describes table head) where
         fits = ((rw none (omega arith), rw none room), enough)
 
     -- no room for the initial row
-    pub begins_full : final T T.initial ≡ false → length before < 4 + row_width head.clocks.count → Ended table before records (replicate (length before) 0) (refusing s 20 0)
-    begins_full o h =
-        let (rest, e) = reads in
-        refused_ends s 20 0 (λ q. omega arith) (make_overfull table e (length before) records (first_row T ∷ []) tt are (inr (rw bytes h)))
+    pub begins_full : final T T.initial ≡ false → length before < 4 + row_width head.clocks.count → making table (length before) records ≡ bad 20 0
+    begins_full o h = let (rest, e) = reads in make_overfull table e (length before) records (first_row T ∷ []) tt are (inr (rw bytes h))
       where
         are : (r : Row) → Mem r (first_row T ∷ []) → Kept T r
         are r i = rw (Memᴰ.eq_of_singleton i) (begun o)
@@ -217,30 +189,26 @@ module _ (table : List ℕ) (head : Head) (D : Describes table head) (out : List
         go (inl (q, b)) = rw (b, q) (ap (row_of n) (get_or-set_same ws 0 x blank long))
         go (inr (j, g, _)) = absurd (omega arith)
 
-    pub begins : (records : ℕ) → 4096 ≤ records → (ws : List Region) → length ws ≡ records → Loops table out records out' ws (starting head x)
+    pub begins : (records : ℕ) → 4096 ≤ records → (ws : List Region) → length ws ≡ records → Working table out records out' ws (starting head x)
     begins records enough ws sized = record {
-      goes = λ g. record {
-        standing = record {
-          describes = D;
-          grown = grown;
-          on = refl;
-          unrefused = refl;
-          step_in = omega arith;
-          stands = λ j q. absurd (omega arith);
-          edge_next = λ v. never v;
-          walked_from = λ v. never v;
-          sized = length-set ws 0 x ∙ sized;
-          enough = enough;
-          place_in = omega arith;
-          again = get_or-set_same ws 0 x blank (omega arith);
-          take_in = omega arith;
-          takes = λ v. refl;
-          tied = tied ws (omega arith);
-        };
-        sized = sized;
+      standing = record {
+        describes = D;
+        grown = grown;
+        on = refl;
+        step_in = omega arith;
+        stands = λ j q. absurd (omega arith);
+        edge_next = λ v. never v;
+        walked_from = λ v f. absurd (none-some v f);
+        sized = length-set ws 0 x ∙ sized;
+        enough = enough;
         place_in = omega arith;
+        again = get_or-set_same ws 0 x blank (omega arith);
         take_in = omega arith;
-        same_length = I.same_length;
+        takes = λ v. refl;
+        tied = tied ws (omega arith);
       };
-      ends = λ e. never (sym e);
+      sized = sized;
+      place_in = omega arith;
+      take_in = omega arith;
+      same_length = I.same_length;
     }

@@ -2,29 +2,33 @@
 use Prim.Native.Nat.{ℕ, suc, ◌+◌, ◌*◌, ◌%◌, ◌≤◌, ◌<◌}
 use native.Mathlib.Omega.{arith}
 use mathlib.Core.Path.{◌≡◌, sym, ap, subst, ◌∙◌}
-use mathlib.Core.Bool.{true, false, cond}
+use mathlib.Core.Bool.{true, false}
 use mathlib.Core.Logic.{◌⊎◌, inl, inr}
 use mathlib.Core.List.{List, ◌++◌}
 use lib.ListN.{length, drop, replicate}
-use lib.Dec.{eqb}
+use Rattle.std.specs.Prelude.{Some, Result, Ok, Err}
+use Rattle.std.proofs.lemmas.Option.{none-some, same_Some}
 use Rattle.automata.specs.Row.{Row}
 use Rattle.automata.specs.Automaton.{Table}
 use Rattle.automata.specs.Closed.{Mem, Ascends}
 use Rattle.automata.specs.Checks.{has}
 use Rattle.automata.specs.Kept.{insert, kept, enters, Kept}
-use Rattle.automata.proofs.Laws.Tests.{never, refutes}
+use Rattle.automata.proofs.Laws.Tests.{refutes}
 use Rattle.automata.proofs.Laws.Checks.{has_law}
 use Rattle.regions.specs.Values.{row_of}
 use Rattle.regions.specs.declared.region.Region.{Region}
-use Rattle.table_files.specs.Answer.{accepted, refused}
-use Rattle.table_files.specs.Reading.{good}
+use Rattle.table_files.specs.Answer.{accepted}
+use Rattle.table_files.specs.Reading.{good, bad}
 use Rattle.table_files.specs.Admission.{admitted, table_of}
 use Rattle.table_files.proofs.Laws.Admission.{admission_read}
+use Rattle.table_records.specs.declared.refusal.Refusal.{Refusal}
+use Rattle.table_records.specs.Refusal.{number_of}
 use Rattle.calls.specs.RegionFile.{row_width, list_bytes}
+use Rattle.calls.specs.Making.{making}
 use Rattle.listed_rows.specs.Listed.{listed_rows}
 use Rattle.listed_rows.proofs.Laws.Listed.{listed_length}
 use Rattle.making_turns.specs.declared.work.Work as work_code
-use Rattle.making_turns.specs.Work.{told, Standing, Ended, Loops, refusing, ending, Comes}
+use Rattle.making_turns.specs.Work.{Standing, Ended, Loops, refusing, Comes}
 use Rattle.automata.proofs.Laws.Insert.{insert_ascends, insert_out, insert_length}
 use Rattle.automata.proofs.Laws.Kept.{kept_row}
 use Rattle.calls.proofs.Laws.Making.{Fits, list_bytes_length, make_overfull, make_entered, make_rows, make_told}
@@ -54,12 +58,9 @@ module _ {table before : List ℕ} {records : ℕ} {out : List ℕ} {ws : List R
 
   -- one row too many -------------------------------------------------------------------------------------------------------------------------
 
-  pub overfull_ends : (x : Region) → Comes T rows (row_of n x) → (4096 < suc s.count) ⊎ (length before < 4 + suc s.count * row_width n)
-      → Ended table before records (replicate (length before) 0) (refusing s 20 0)
-  overfull_ends x C w =
-      let (rest, e) = reads in
-      let (a, b) = make_told table records before (make_overfull table e (length before) records more more_ascends more_kept (over w)) in
-      record { answer = sym a; buffer = sym b }
+  pub overfull : (x : Region) → Comes T rows (row_of n x) → (4096 < suc s.count) ⊎ (length before < 4 + suc s.count * row_width n)
+      → making table (length before) records ≡ bad 20 0
+  overfull x C w = let (rest, e) = reads in make_overfull table e (length before) records more more_ascends more_kept (over w)
     where
       more : List Row
       more = insert (row_of n x) rows
@@ -69,7 +70,7 @@ module _ {table before : List ℕ} {records : ℕ} {out : List ℕ} {ws : List R
 
       kept_or : (r : Row) → (r ≡ row_of n x) ⊎ Mem r rows → Kept T r
       kept_or r (inl q) =
-          rw q (comes_kept T (is_admitted S) s.head.clocks S.describes.bounds before out s.count s.start s.top s.step s.walking s.entered S.grown
+          rw q (comes_kept T (is_admitted S) s.head.clocks S.describes.bounds before out s.count s.start s.top s.last.step s.walking s.last.entered S.grown
           (row_of n x) C)
       kept_or r (inr i) = S.grown.kept r i
 
@@ -86,17 +87,17 @@ module _ {table before : List ℕ} {records : ℕ} {out : List ℕ} {ws : List R
 
   -- all rows are settled ---------------------------------------------------------------------------------------------------------------------
 
-  module _ (w : s.walking ≡ true) (all : s.step ≡ suc s.head.edges) (whole : s.count ≤ s.top) where
+  module _ (w : s.walking ≡ true) (all : s.last.step ≡ suc s.head.edges) (whole : s.count ≤ s.top) where
     top_is : s.top ≡ s.count
     top_is = omega (arith, S.grown.high)
 
-    all_edges : s.step ≡ suc (length T.edges)
+    all_edges : s.last.step ≡ suc (length T.edges)
     all_edges = all ∙ ap suc (edges_are S)
 
     kept_are : kept T ≡ rows
     kept_are = grown_kept S.grown w all_edges top_is
 
-    enters_are : enters T (kept T) ≡ s.entered
+    enters_are : enters T (kept T) ≡ s.last.entered
     enters_are =
         ap (enters T) kept_are
         ∙ grown_enters S.grown w all_edges top_is
@@ -113,23 +114,17 @@ module _ {table before : List ℕ} {records : ℕ} {out : List ℕ} {ws : List R
       S.enough,
     )
 
-    pub entered_ends : s.entered ≡ true → Ended table before records (replicate (length before) 0) (refusing s 21 0)
-    entered_ends h =
-        let (rest, e) = reads in
-        let (a, b) = make_told table records before (make_entered table e (length before) records fits (enters_are ∙ h)) in
-        record { answer = sym a; buffer = sym b }
+    pub final_entered : s.last.entered ≡ true → making table (length before) records ≡ bad 21 0
+    final_entered h = let (rest, e) = reads in make_entered table e (length before) records fits (enters_are ∙ h)
 
-    pub list_ends : s.entered ≡ false → (out' : List ℕ) → out' ≡ list_bytes rows ++ drop (4 + s.count * row_width n) out → Ended table before records out' (ending s)
+    pub list_ends : s.last.entered ≡ false → (out' : List ℕ) → out' ≡ list_bytes rows ++ drop (4 + s.count * row_width n) out → Ended table before records out' (Ok (s.count % 65536))
     list_ends h out' q =
         let (rest, e) = reads in
         let (a, b) = make_told table records before (make_rows table e (length before) records fits (enters_are ∙ h)) in
-        record { answer = told_is ∙ ap accepted count_is ∙ sym a; buffer = q ∙ ap (λ (l : List ℕ). list_bytes rows ++ l) S.grown.rest ∙ rest_is ∙ sym b }
+        record { answer = ap accepted (small ∙ count_is) ∙ sym a; buffer = q ∙ ap (λ (l : List ℕ). list_bytes rows ++ l) S.grown.rest ∙ rest_is ∙ sym b }
       where
         small : s.count % 65536 ≡ s.count
         small = omega (arith, S.grown.listed.short)
-
-        told_is : told (ending s) ≡ accepted s.count
-        told_is = ap (λ (k : ℕ). cond (eqb k 0) (accepted (s.count % 65536)) (refused k s.at)) S.unrefused ∙ ap accepted small
 
         count_is : s.count ≡ length (kept T)
         count_is = sym (listed_length n out s.count) ∙ ap length (sym kept_are)
@@ -147,14 +142,22 @@ pub short_before : (count w : ℕ) (out before : List ℕ) → length out ≡ le
 short_before count w out before e (inl h) = inl h
 short_before count w out before e (inr h) = inr (rw e at h)
 
-module _ {table before : List ℕ} {records : ℕ} {out : List ℕ} {ws : List Region} (s : work_code.Work) where
-  -- with a refusal, and the buffer cleared
-  pub refused_loops : {number place : ℕ} {q : work_code.Work} (lent : List ℕ) → q ≡ refusing s number place → out ≡ replicate (length lent) 0 → length lent ≡ length before
-      → Ended table before records (replicate (length before) 0) (refusing s number place) → Loops table before records out ws q
-  refused_loops {number} {place} lent e cleared same E =
-      subst (λ (z : work_code.Work). Loops table before records out ws z) (sym e)
-      (subst (λ (l : List ℕ). Loops table before records l ws (refusing s number place)) (sym (cleared ∙ ap (λ (k : ℕ). replicate k 0) same)) (record { goes = λ g. never g; ends = λ _. E }))
+module _ {table before : List ℕ} {records : ℕ} {out : List ℕ} where
+  -- what the definitions refuse: the buffer is cleared
+  pub refused_ends : (r : Refusal) (lent : List ℕ) → making table (length before) records ≡ bad (number_of r.fault) r.place → length lent ≡ length before
+      → out ≡ replicate (length lent) 0 → Ended table before records out (Err r)
+  refused_ends r lent e same cleared =
+      let (a, b) = make_told table records before e in
+      record { answer = sym a; buffer = cleared ∙ ap (λ (k : ℕ). replicate k 0) same ∙ sym b }
 
-  -- with the list
-  pub ended_loops : {q : work_code.Work} → q ≡ ending s → Ended table before records out (ending s) → Loops table before records out ws q
-  ended_loops e E = subst (λ (z : work_code.Work). Loops table before records out ws z) (sym e) (record { goes = λ g. never g; ends = λ _. E })
+  -- with an answer
+  pub ended_loops : {ws : List Region} (a : Result ℕ Refusal) {q : work_code.Work} → q.ended ≡ Some a → Ended table before records out a → Loops table before records out ws q
+  ended_loops a e E = record {
+    goes = λ g. absurd (none-some a (sym g ∙ e));
+    ends = λ a' g. rw (same_Some a a' (sym e ∙ g)) at E;
+  }
+
+  -- with a refusal
+  pub refused_loops : {ws : List Region} (s : work_code.Work) {q : work_code.Work} {r : Refusal} (lent : List ℕ) → q ≡ refusing s r → making table (length before) records ≡ bad (number_of r.fault) r.place
+      → length lent ≡ length before → out ≡ replicate (length lent) 0 → Loops table before records out ws q
+  refused_loops s {r = r} lent e m same cleared = ended_loops (Err r) (ap (λ (w : work_code.Work). w.ended) e) (refused_ends r lent m same cleared)

@@ -14,7 +14,7 @@ use Rattle.automata.specs.Closed.{Mem, first_row}
 use Rattle.automata.specs.Next.{next_rows}
 use Rattle.automata.specs.Kept.{kept, enters, Entered, at_once, later}
 use Rattle.automata.proofs.Laws.Tests.{never, true_or_false}
-use Rattle.regions.specs.declared.region.Clocks.{Clocks}
+use Rattle.regions.specs.declared.clocks.Clocks.{Clocks}
 use Rattle.listed_rows.specs.Listed.{listed_row, listed_rows}
 use Rattle.listed_rows.proofs.Laws.Listed.{listed_length, listed_in, in_listed}
 use Rattle.kept_rows.specs.Births.{birth}

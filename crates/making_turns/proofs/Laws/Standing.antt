@@ -14,7 +14,8 @@ use Rattle.automata.specs.Checks.{every, has}
 use Rattle.automata.proofs.Laws.Tests.{never}
 use Rattle.regions.specs.Values.{row_of, bounds_of}
 use Rattle.regions.specs.declared.region.Region.{Region}
-use Rattle.regions.specs.declared.region.Sought.{Sought}
+use Rattle.std.specs.Prelude.{Option, None, Some}
+use Rattle.std.proofs.lemmas.Option.{none-some}
 use Rattle.table_files.specs.Admission.{table_of}
 use Rattle.tables.specs.Bounds.{edge_start}
 use Rattle.listed_rows.specs.Listed.{listed_row, listed_rows}
@@ -37,15 +38,14 @@ module _ {table before : List ℕ} {records : ℕ} {out : List ℕ} {ws : List R
   At start top step walking entered = Grown (table_of table) s.head.clocks before out s.count start top step walking entered
 
   -- where a turn wants no row to be stored, what changes is how far the rows are followed and walked
-  stands_further : {take start top step here : ℕ} {walking entered : Bool} {from floor : Sought} → At start top step walking entered → step ≤ suc s.head.edges
-      → ((j : ℕ) → step ≡ suc j → here ≡ edge_start n s.head.locations table j) → (walking ≡ true → 1 ≤ step) → (from.found ≡ true → Mem (row_of n from.region) rows)
+  stands_further : {take start top : ℕ} {walking : Bool} {q : stride_code.Stride} → At start top q.step walking q.entered → q.step ≤ suc s.head.edges
+      → ((j : ℕ) → q.step ≡ suc j → q.here ≡ edge_start n s.head.locations table j) → (walking ≡ true → 1 ≤ q.step) → ((v : Region) → q.from ≡ Some v → Mem (row_of n v) rows)
       → take < records → (walking ≡ false → take ≡ top)
-      → Standing table before records out ws (record s { take = take; start = start; top = top; walking = walking; step = step; here = here; «from» = from; floor = floor; entered = entered })
+      → Standing table before records out ws (record s { take = take; start = start; top = top; walking = walking; last = q })
   stands_further grown step_in stands edge_next walked_from take_in takes = record {
     describes = S.describes;
     grown = grown;
     on = S.on;
-    unrefused = S.unrefused;
     step_in = step_in;
     stands = stands;
     edge_next = edge_next;
@@ -64,8 +64,8 @@ module _ {table before : List ℕ} {records : ℕ} {out : List ℕ} {ws : List R
   edges_are = S.describes.edges
 
   -- where a turn wants no row to be stored, what is stored again is there
-  pub stands_on : s.going ≡ true → Working table before records out ws s
-  stands_on g = record {
+  pub stands_on : Working table before records out ws s
+  stands_on = record {
     standing = subst (λ (l : List Region). Standing table before records out l s) (sym same) S;
     sized = S.sized;
     place_in = S.place_in;
@@ -77,7 +77,7 @@ module _ {table before : List ℕ} {records : ℕ} {out : List ℕ} {ws : List R
       same = ap (λ (x : Region). set ws s.place x) (sym S.again) ∙ set-get_or ws s.place blank
 
   pub goes_on : Loops table before records out ws s
-  goes_on = record { goes = stands_on; ends = λ e. never (sym e ∙ S.on) }
+  goes_on = record { goes = λ g. stands_on; ends = λ a e. absurd (none-some a (sym S.on ∙ e)) }
 
   -- the row that is taken is the one at the top
   pub taken_tied : s.walking ≡ false → (r : Region) → r ≡ get_or ws s.take blank → (i : ℕ) → i < s.count → birth n out i ≡ s.top → listed_row n out i ≡ row_of n r
@@ -93,38 +93,38 @@ module _ {table before : List ℕ} {records : ℕ} {out : List ℕ} {ws : List R
   -- plain steps -------------------------------------------------------------------------------------------------------------------------------
 
   module _ (w : s.walking ≡ false) (r : Region) (e : r ≡ get_or ws s.take blank) (q : stride_code.Stride)
-      (F : Follows (table_of table) rows n s.step (row_of n r) s.entered q) where
+      (F : Follows (table_of table) rows n s.last.step (row_of n r) s.last.entered q) where
     pub taken_listed : Mem (row_of n r) rows
     taken_listed = top_listed S.grown w (row_of n r) (taken_tied w r e) q F
 
     stride_in : q.step ≤ suc s.head.edges
-    stride_in = go q.next.found refl
+    stride_in = go q.next refl
       where
-        go : (b : Bool) → q.next.found ≡ b → q.step ≤ suc s.head.edges
-        go true f = omega (arith, (F.new f).in_range, edges_are)
-        go false f = omega (arith, F.all f, edges_are)
+        go : (o : Option Region) → q.next ≡ o → q.step ≤ suc s.head.edges
+        go None e = omega (arith, F.all e, edges_are)
+        go (Some x) e = omega (arith, (F.new x e).in_range, edges_are)
 
     pub followed_stands : ((j : ℕ) → q.step ≡ suc j → q.here ≡ edge_start n s.head.locations table j) → Standing table before records out ws (went s q)
     followed_stands h =
-        stands_further (grown_followed S.grown w (row_of n r) (taken_tied w r e) q F) stride_in h (λ v. never (sym w ∙ v)) (λ v. never (sym F.none_from ∙ v)) S.take_in S.takes
+        stands_further (grown_followed S.grown w (row_of n r) (taken_tied w r e) q F) stride_in h (λ v. never (sym w ∙ v)) (λ v f. absurd (none-some v (sym F.none_from ∙ f))) S.take_in S.takes
 
-    pub followed_comes : (f : q.next.found ≡ true) → Comes (table_of table) rows (row_of n q.next.region)
-    followed_comes f = record { by = q.step; parent = row_of n r; listed = taken_listed; is_new = F.new f }
+    pub followed_comes : (x : Region) → q.next ≡ Some x → Comes (table_of table) rows (row_of n x)
+    followed_comes x f = record { by = q.step; parent = row_of n r; listed = taken_listed; is_new = F.new x f }
 
   -- other steps -------------------------------------------------------------------------------------------------------------------------------
 
   -- the rows that were found before the start lead into the list by them
   pub old_rows : (m i : ℕ) → m ≤ s.head.edges → plain (table_of table) m ≡ false → i < s.count → birth n out i < s.start
       → every (has rows) (due (table_of table) m (listed_row n out i)) ≡ true
-  old_rows m i h p l b = settled_walked (table_of table) rows s.entered m (listed_row n out i) p (S.grown.walked m i (omega (arith, edges_are)) p l (inl b))
+  old_rows m i h p l b = settled_walked (table_of table) rows s.last.entered m (listed_row n out i) p (S.grown.walked m i (omega (arith, edges_are)) p l (inl b))
 
-  module _ (w : s.walking ≡ true) (q : stride_code.Stride) (W : Walks (table_of table) rows n s.step q) (u : q.entered ≡ s.entered) where
+  module _ (w : s.walking ≡ true) (q : stride_code.Stride) (W : Walks (table_of table) rows n s.last.step q) (u : q.entered ≡ s.last.entered) where
     walk_in : q.step ≤ suc s.head.edges
-    walk_in = go q.next.found refl
+    walk_in = go q.next refl
       where
-        go : (b : Bool) → q.next.found ≡ b → q.step ≤ suc s.head.edges
-        go true f = omega (arith, (W.new f).2.in_range, edges_are)
-        go false f = omega (arith, W.all f, edges_are)
+        go : (o : Option Region) → q.next ≡ o → q.step ≤ suc s.head.edges
+        go None e = omega (arith, W.all e, edges_are)
+        go (Some x) e = omega (arith, (W.new x e).2.in_range, edges_are)
 
     pub walked_stands : ((j : ℕ) → q.step ≡ suc j → q.here ≡ edge_start n s.head.locations table j) → Standing table before records out ws (went s q)
     walked_stands h =
@@ -132,28 +132,28 @@ module _ {table before : List ℕ} {records : ℕ} {out : List ℕ} {ws : List R
         (subst (λ (v : Bool). At s.start s.top q.step s.walking v) (sym u) (grown_walked S.grown w q W))
         walk_in h (λ v. omega (arith, W.on, S.edge_next v)) W.from S.take_in S.takes
 
-    pub walked_comes : (f : q.next.found ≡ true) → Comes (table_of table) rows (row_of n q.next.region)
-    walked_comes f = let (r, i, N) = W.new f in record { by = q.step; parent = r; listed = i; is_new = N }
+    pub walked_comes : (x : Region) → q.next ≡ Some x → Comes (table_of table) rows (row_of n x)
+    walked_comes x f = let (r, i, N) = W.new x f in record { by = q.step; parent = r; listed = i; is_new = N }
 
   -- from row to row, and from rows to walks -------------------------------------------------------------------------------------------------------
 
-  module _ (w : s.walking ≡ false) (all : s.step ≡ suc s.head.edges) where
-    all_edges : s.step ≡ suc (length (table_of table).edges)
+  module _ (w : s.walking ≡ false) (all : s.last.step ≡ suc s.head.edges) where
+    all_edges : s.last.step ≡ suc (length (table_of table).edges)
     all_edges = all ∙ ap suc edges_are
 
     pub next_stands : s.top + 1 < s.count → Standing table before records out ws (next_row s)
     next_stands h =
         stands_further
-        (subst (λ (t : ℕ). At s.start t 0 s.walking s.entered) (sym (add-one s.top)) (grown_next S.grown w all_edges (omega arith)))
+        (subst (λ (t : ℕ). At s.start t 0 s.walking s.last.entered) (sym (add-one s.top)) (grown_next S.grown w all_edges (omega arith)))
         (omega arith) (λ j q. absurd (omega arith)) (λ v. never (sym w ∙ v)) S.walked_from (omega (arith, S.grown.listed.short, S.enough)) (λ v. refl)
 
     pub walks_stand : s.count ≤ s.top + 1 → (first : ℕ) → first ≡ edge_start n s.head.locations table 0 → Standing table before records out ws (to_walks s first)
     walks_stand h first e =
         stands_further
-        (subst (λ (t : ℕ). At s.start t 1 true s.entered) (sym (add-one s.top)) (grown_walks S.grown w all_edges (omega (arith, S.grown.follows w))))
+        (subst (λ (t : ℕ). At s.start t 1 true s.last.entered) (sym (add-one s.top)) (grown_walks S.grown w all_edges (omega (arith, S.grown.follows w))))
         (omega arith) (λ j q. let z : 0 ≡ j = omega arith in rw (← z) e) (λ v. omega arith) S.walked_from S.take_in (λ v. never (sym v))
 
-  module _ (w : s.walking ≡ true) (all : s.step ≡ suc s.head.edges) where
+  module _ (w : s.walking ≡ true) (all : s.last.step ≡ suc s.head.edges) where
     pub rows_stand : s.top < s.count → Standing table before records out ws (to_rows s)
     rows_stand h =
         stands_further (grown_on S.grown w (all ∙ ap suc edges_are) h) (omega arith) (λ j q. absurd (omega arith)) (λ v. never v) S.walked_from (omega (arith, S.grown.listed.short, S.enough)) (λ v. refl)

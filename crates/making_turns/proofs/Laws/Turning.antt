@@ -11,12 +11,14 @@ use lib.Seq.{get_or-set_same}
 use Rattle.automata.specs.Row.{Row, IsRow}
 use Rattle.automata.specs.Automaton.{Admitted}
 use Rattle.automata.specs.Closed.{Mem}
-use Rattle.automata.proofs.Laws.Tests.{never}
 use Rattle.regions.specs.Values.{row_of, bounds_of}
 use Rattle.regions.specs.declared.region.Region.{Region}
+use Rattle.std.specs.Prelude.{None}
+use Rattle.std.proofs.lemmas.Option.{none-some}
 use Rattle.table_files.specs.Admission.{table_of}
 use Rattle.table_files.proofs.Laws.Admission.{admission_admitted}
 use Rattle.calls.specs.RegionFile.{row_width}
+use Rattle.table_records.specs.declared.refusal.Refusal.{Refusal}
 use Rattle.listed_rows.specs.Listed.{listed_row, listed_rows, Splits}
 use Rattle.kept_rows.specs.Inserted.{Inserted}
 use Rattle.kept_rows.proofs.Laws.Inserted.{inserted_mem}
@@ -40,21 +42,21 @@ module _ {table before : List ℕ} {records : ℕ} {out : List ℕ} {ws : List R
     -- a new row is a row
     pub new_is_row : IsRow (bounds_of s.head.clocks) (row_of n x)
     new_is_row =
-        comes_row (table_of table) is_admitted s.head.clocks S.describes.bounds before out s.count s.start s.top s.step s.walking s.entered S.grown
+        comes_row (table_of table) is_admitted s.head.clocks S.describes.bounds before out s.count s.start s.top s.last.step s.walking s.last.entered S.grown
         (row_of n x) C
 
     module _ (few : s.count < 4096) (room : 4 + suc s.count * row_width n ≤ length out) (m : ℕ) (sp : Splits (listed_row n out) s.count (row_of n x) m) (out' : List ℕ)
         (I : Inserted n out s.count m (row_of n x) out') where
-      grown : Grown (table_of table) s.head.clocks before out' (s.count + 1) s.start s.top s.step s.walking s.entered
+      grown : Grown (table_of table) s.head.clocks before out' (s.count + 1) s.start s.top s.last.step s.walking s.last.entered
       grown =
-          subst (λ (c : ℕ). Grown (table_of table) s.head.clocks before out' c s.start s.top s.step s.walking s.entered) (sym (add-one s.count))
-          (grown_added (table_of table) is_admitted s.head.clocks S.describes.bounds before out s.count s.start s.top s.step s.walking s.entered S.grown
+          subst (λ (c : ℕ). Grown (table_of table) s.head.clocks before out' c s.start s.top s.last.step s.walking s.last.entered) (sym (add-one s.count))
+          (grown_added (table_of table) is_admitted s.head.clocks S.describes.bounds before out s.count s.start s.top s.last.step s.walking s.last.entered S.grown
           (row_of n x) C few room m sp out' I)
 
       tied : Tied n out' (s.count + 1) (set ws s.count x)
       tied =
           subst (λ (c : ℕ). Tied n out' c (set ws s.count x)) (sym (add-one s.count))
-          (tied_added (table_of table) is_admitted s.head.clocks S.describes.bounds before out s.count s.start s.top s.step s.walking s.entered S.grown
+          (tied_added (table_of table) is_admitted s.head.clocks S.describes.bounds before out s.count s.start s.top s.last.step s.walking s.last.entered S.grown
           (row_of n x) C few room m sp out' I ws x refl (omega (arith, S.sized, S.enough)) S.tied)
 
       still : (r : Row) → Mem r rows → Mem r (listed_rows n out' (s.count + 1))
@@ -65,11 +67,10 @@ module _ {table before : List ℕ} {records : ℕ} {out : List ℕ} {ws : List R
         describes = S.describes;
         grown = grown;
         on = S.on;
-        unrefused = S.unrefused;
         step_in = S.step_in;
         stands = S.stands;
         edge_next = S.edge_next;
-        walked_from = λ f. still (row_of n s.from.region) (S.walked_from f);
+        walked_from = λ v f. still (row_of n v) (S.walked_from v f);
         sized = length-set ws s.count x ∙ S.sized;
         enough = S.enough;
         place_in = omega (arith, S.enough);
@@ -88,7 +89,7 @@ module _ {table before : List ℕ} {records : ℕ} {out : List ℕ} {ws : List R
           take_in = S.take_in;
           same_length = I.same_length ∙ S.grown.same_length;
         };
-        ends = λ e. never (sym e ∙ S.on);
+        ends = λ a e. absurd (none-some a (sym S.on ∙ e));
       }
 
 -- each turn leaves less to do -----------------------------------------------------------------------------------------------------------------
@@ -102,11 +103,11 @@ module _ (s : work_code.Work) where
   unfolding left
   adding_left x few = omega arith
 
-  pub refusing_left : (number place : ℕ) → s.going ≡ true → left (refusing s number place) < left s
+  pub refusing_left : (r : Refusal) → s.ended ≡ None → left (refusing s r) < left s
   unfolding left
-  refusing_left number place g = rw g (omega arith)
+  refusing_left r g = rw g (omega arith)
 
-  pub ending_left : s.going ≡ true → left (ending s) < left s
+  pub ending_left : s.ended ≡ None → left (ending s) < left s
   unfolding left
   ending_left g = rw g (omega arith)
 

@@ -4,7 +4,7 @@ use native.Mathlib.Omega.{arith}
 use mathlib.Core.Path.{◌≡◌, refl, sym, ap, subst, ◌∙◌}
 use mathlib.Core.Bool.{Bool, true, false, cond}
 use mathlib.Core.Logic.{◌⊎◌, inl, inr}
-use mathlib.Core.Option.{Option, none, some}
+use mathlib.Core.Option.{Option, none, some, some-injective, none-ne-some}
 use mathlib.Core.List.Memᴰ
 use mathlib.Core.List.{List, [], ◌∷◌}
 use lib.ListN.{length}
@@ -12,22 +12,24 @@ use Rattle.automata.specs.Row.{Row, IsRow, Below}
 use Rattle.automata.specs.Rows.{select}
 use Rattle.automata.specs.Closed.{Mem}
 use Rattle.automata.specs.Checks.{has, belowb}
-use Rattle.regions.specs.Values.{bounds_of, row_of, region_of, sought, found_of}
-use Rattle.regions.specs.declared.region.Clocks.{Clocks}
-use Rattle.regions.specs.declared.region.Sought.{Sought}
+use Rattle.regions.specs.Values.{bounds_of, row_of, sought, found_of}
+use Rattle.regions.specs.declared.clocks.Clocks.{Clocks}
+use Rattle.regions.specs.declared.region.Region.{Region}
+use Rattle.std.specs.declared.option.Option as option_code
+use Rattle.std.specs.Prelude.{None, Some}
 use Rattle.edge_walk.specs.Walk.{above, first_above}
-use Rattle.edge_walk.specs.Choice.{First, Ready}
-use Rattle.edge_walk.specs.Way.{way_rows}
+use Rattle.edge_walk.specs.Choice.{First}
+use Rattle.edge_walk.specs.Way.{rows_on}
 use Rattle.edge_walk.specs.declared.way.Way.{Way}
 use Rattle.new_rows.specs.New.{NewOf}
-use Rattle.automata.proofs.Laws.Tests.{never, fails, true_or_false}
+use Rattle.automata.proofs.Laws.Tests.{never, fails}
 use Rattle.automata.proofs.Laws.Members.{Sorted, select_in, select_out}
 use Rattle.automata.proofs.Laws.Ordered.{below_trans, below_itself}
 use Rattle.automata.proofs.Laws.Checks.{every_law, belowb_law}
-use Rattle.regions.proofs.Laws.Values.{row_region}
+use Rattle.regions.proofs.Laws.Values.{found_sought}
 use Rattle.edge_walk.proofs.Laws.First.{Among}
-use Rattle.edge_walk.proofs.Laws.Along.{none_on, on_start}
-use Rattle.new_rows.proofs.Laws.New.{none_new, one_new}
+use Rattle.edge_walk.proofs.Laws.Along.{way_sorted, on_start}
+use Rattle.edge_walk.proofs.Laws.Ready.{ready_of}
 
 -- the first above a floor -----------------------------------------------------------------------------------------------------------
 
@@ -90,114 +92,81 @@ module _ {A : Type 0} (p q : A → Bool) (harder : (x : A) → q x ≡ true → 
 -- the walk --------------------------------------------------------------------------------------------------------------------------
 
 -- at most how many rows are left to be met, with the one that is met: none where none is
-unfoldable pub rows_left : ℕ → List Row → Sought → ℕ
-rows_left n all s = cond s.found (suc (length (select (belowb (row_of n s.region)) all))) 0
+unfoldable pub rows_left : List Row → Option Row → ℕ
+rows_left all none = 0
+rows_left all (some y) = suc (length (select (belowb y) all))
 
--- what is known where s is met, of a walk from the floor on: it is one of the rows above the floor, and the list has those before it; if there is none, it
+-- what is known of a walk from the floor on where a row is met: it is one of the rows above the floor, and the list has those before it; if there is none, it
 -- has all of them
-pub record Walked (n : ℕ) (all rows : List Row) (floor : Option Row) (s : Sought) : Type 0 where
-  pub met : s.found ≡ true → Among floor all (row_of n s.region)
-  pub before : s.found ≡ true → (x : Row) → Among floor all x → (has rows x ≡ true) ⊎ ((x ≡ row_of n s.region) ⊎ Below (row_of n s.region) x)
-  pub over : s.found ≡ false → (x : Row) → Among floor all x → has rows x ≡ true
+abbrev pub Walked : List Row → List Row → Option Row → Option Row → Type 0
+Walked all rows floor none = (x : Row) → Among floor all x → has rows x ≡ true
+Walked all rows floor (some y) = Among floor all y × ((x : Row) → Among floor all x → (has rows x ≡ true) ⊎ ((x ≡ y) ⊎ Below y x))
 
-module _ (n : ℕ) (all : List Row) (sorted : Sorted Below all) (sized : (x : Row) → Mem x all → (length x.intervals ≡ n) × (length x.ranks ≡ n)) where
-  -- what is met past a floor
-  record Meets (floor : Option Row) (s : Sought) : Type 0 where
-    first : s.found ≡ true → Among floor all (row_of n s.region)
-    least : s.found ≡ true → (x : Row) → Among floor all x → (x ≡ row_of n s.region) ⊎ Below (row_of n s.region) x
-    last : s.found ≡ false → (x : Row) → Among floor all x → ⊥
-
-  meets : (floor : Option Row) (s : Sought) → s ≡ sought (first_above floor all) → Meets floor s
-  meets floor s e = subst (Meets floor) (sym e) (go (first_above floor all) (first_of floor all sorted))
-    where
-      go : (o : Option Row) → First (Among floor all) o → Meets floor (sought o)
-      go none f = record { first = λ t. never t; least = λ t. never t; last = λ _. f }
-      go (some y) f =
-          let (p, q) = sized y f.0.0 in
-          let back : row_of n (region_of y) ≡ y = row_region n y p q in
-          record {
-            first = λ _. subst (Among floor all) (sym back) f.0;
-            least = λ _. subst (λ (v : Row). (x : Row) → Among floor all x → (x ≡ v) ⊎ Below v x) (sym back) f.1;
-            last = λ t. never (sym t);
-          }
-
-  -- one after the other
-  module _ (s : Sought) (t : s.found ≡ true) (s' : Sought) (e : s' ≡ sought (first_above (found_of n s) all)) where
-    abbrev y : Row
-    y = row_of n s.region
-
-    abbrev y' : Row
-    y' = row_of n s'.region
-
-    found_is : found_of n s ≡ some y
-    found_is = go s.found t
-      where
-        go : (b : Bool) → b ≡ true → found_of n (record { found = b; region = s.region }) ≡ some y
-        go true h = refl
-        go false h = never h
-
-    past : Meets (some y) s'
-    past = meets (some y) s' (e ∙ ap (λ (o : Option Row). sought (first_above o all)) found_is)
-
-    -- the rows above the next are fewer
-    pub walk_fewer : rows_left n all s' < rows_left n all s
-    unfolding rows_left
-    walk_fewer = rw t (go s'.found refl)
-      where
-        go : (b : Bool) → s'.found ≡ b → cond b (suc (length (select (belowb y') all))) 0 < suc (length (select (belowb y) all))
-        go false h = omega arith
-        go true h =
-            let (m, u) = past.first h in
-            let l = fewer_pass (belowb y) (belowb y') (λ x v. (belowb_law y x).1 (below_trans y y' x ((belowb_law y y').0 u) ((belowb_law y' x).0 v)))
-            y' u (fails (belowb y' y') (belowb_law y' y') (below_itself y')) all m in
-            omega arith
-
-    -- past a row that is listed
-    pub walk_on : (rows : List Row) (floor : Option Row) → Walked n all rows floor s → (b : Bool) → b ≡ has rows y → b ≡ true → Walked n all rows floor s'
-    walk_on rows floor W b f h = record {
-      met = λ t'. let (m, u) = past.first t' in (m, above_on floor y y' (W.met t).1 ((belowb_law y y').0 u));
-      before = λ t' x q. later t' x q (W.before t x q);
-      over = λ t' x q. none_later t' x q (W.before t x q);
-    }
-      where
-        later : s'.found ≡ true → (x : Row) → Among floor all x → (has rows x ≡ true) ⊎ ((x ≡ y) ⊎ Below y x) → (has rows x ≡ true) ⊎ ((x ≡ y') ⊎ Below y' x)
-        later t' x q (inl k) = inl k
-        later t' x q (inr (inl d)) = inl (ap (has rows) d ∙ sym f ∙ h)
-        later t' x q (inr (inr l)) = inr (past.least t' x (q.0, (belowb_law y x).1 l))
-
-        none_later : s'.found ≡ false → (x : Row) → Among floor all x → (has rows x ≡ true) ⊎ ((x ≡ y) ⊎ Below y x) → has rows x ≡ true
-        none_later t' x q (inl k) = k
-        none_later t' x q (inr (inl d)) = ap (has rows) d ∙ sym f ∙ h
-        none_later t' x q (inr (inr l)) = absurd (past.last t' x (q.0, (belowb_law y x).1 l))
-
+module _ (all rows : List Row) (floor : Option Row) where
   -- from the floor on
-  pub walk_start : (rows : List Row) (floor : Option Row) (s : Sought) → s ≡ sought (first_above floor all) → Walked n all rows floor s
-  walk_start rows floor s e =
-      let M = meets floor s e in
-      record { met = M.first; before = λ t x q. inr (M.least t x q); over = λ t x q. absurd (M.last t x q) }
+  pub walk_start : (o : Option Row) → First (Among floor all) o → Walked all rows floor o
+  walk_start none f = λ x q. absurd (f x q)
+  walk_start (some y) f = (f.0, λ x q. inr (f.1 x q))
 
--- its end
-module _ (n : ℕ) (all rows : List Row) (floor : Option Row) (s : Sought) (W : Walked n all rows floor s) where
-  -- at a row that is not listed
-  pub walk_new : s.found ≡ true → (b : Bool) → b ≡ has rows (row_of n s.region) → b ≡ false → NewOf n (select (above floor) all) rows s
-  walk_new t b e h = let (m, u) = W.met t in one_new n (select (above floor) all) rows s t (select_in (above floor) m u) (sym e ∙ h)
+  -- one after the other, past a row that is listed
+  module _ (y : Row) (W : Walked all rows floor (some y)) (h : has rows y ≡ true) where
+    pub walk_on : (o : Option Row) → First (Among (some y) all) o → Walked all rows floor o
+    walk_on none f = λ x q. go x q (W.1 x q)
+      where
+        go : (x : Row) → Among floor all x → (has rows x ≡ true) ⊎ ((x ≡ y) ⊎ Below y x) → has rows x ≡ true
+        go x q (inl k) = k
+        go x q (inr (inl d)) = ap (has rows) d ∙ h
+        go x q (inr (inr l)) = absurd (f x (q.0, (belowb_law y x).1 l))
+    walk_on (some y') f = let (m, u) = f.0 in ((m, above_on floor y y' W.0.1 ((belowb_law y y').0 u)), λ x q. go x q (W.1 x q))
+      where
+        go : (x : Row) → Among floor all x → (has rows x ≡ true) ⊎ ((x ≡ y) ⊎ Below y x) → (has rows x ≡ true) ⊎ ((x ≡ y') ⊎ Below y' x)
+        go x q (inl k) = inl k
+        go x q (inr (inl d)) = inl (ap (has rows) d ∙ h)
+        go x q (inr (inr l)) = inr (f.1 x (q.0, (belowb_law y x).1 l))
+
+  -- its end at a row that is not listed
+  pub walk_new : (n : ℕ) (v : Region) → Walked all rows floor (some (row_of n v)) → has rows (row_of n v) ≡ false → NewOf n (select (above floor) all) rows (Some v)
+  walk_new n v W h = (select_in (above floor) W.0.0 W.0.1, h)
 
   -- past all of them
-  pub walk_over : s.found ≡ false → NewOf n (select (above floor) all) rows s
-  walk_over t =
-      none_new n (select (above floor) all) rows s t
-      ((every_law (has rows) (λ x. (λ h. h, λ h. h)) (select (above floor) all)).1 (λ x m. W.over t x (select_out (above floor) all m)))
+  pub walk_over : (n : ℕ) → Walked all rows floor none → NewOf n (select (above floor) all) rows None
+  walk_over n W = (every_law (has rows) (λ x. (λ h. h, λ h. h)) (select (above floor) all)).1 (λ x m. W x (select_out (above floor) all m))
+
+-- the rows above the next are fewer
+pub walk_fewer : (all : List Row) (y : Row) (o : Option Row) → First (Among (some y) all) o → rows_left all o < rows_left all (some y)
+unfolding rows_left
+walk_fewer all y none f = omega arith
+walk_fewer all y (some y') f =
+    let (m, u) = f.0 in
+    let l = fewer_pass (belowb y) (belowb y') (λ x v. (belowb_law y x).1 (below_trans y y' x ((belowb_law y y').0 u) ((belowb_law y' x).0 v)))
+    y' u (fails (belowb y' y') (belowb_law y' y') (below_itself y')) all m in
+    omega arith
 
 -- along a way -------------------------------------------------------------------------------------------------------------------------
 
--- its rows are rows of its clocks
-pub way_sized : (w : Way) → Ready w.search → (k : Clocks) → w.search.clocks ≡ k → length (bounds_of k) ≡ k.count
-    → (x : Row) → Mem x (way_rows w) → (length x.intervals ≡ k.count) × (length x.ranks ≡ k.count)
-way_sized w ready k e long x m = go (true_or_false w.leads)
-  where
-    of : IsRow (bounds_of w.search.clocks) x → (length x.intervals ≡ k.count) × (length x.ranks ≡ k.count)
-    of i = let j = subst (λ (k : Clocks). IsRow (bounds_of k) x) e i in (j.intervals_length ∙ long, j.ranks_length ∙ long)
+module _ (w : Way) (k : Clocks) (e : w.search.clocks ≡ k) (long : length (bounds_of k) ≡ k.count) where
+  -- its rows are rows of its clocks
+  way_sized : (x : Row) → Mem x (rows_on w) → (length x.intervals ≡ k.count) × (length x.ranks ≡ k.count)
+  way_sized x m =
+      let j = subst (λ (k : Clocks). IsRow (bounds_of k) x) e (on_start w (ready_of w.search) x m).held.is_row in
+      (j.intervals_length ∙ long, j.ranks_length ∙ long)
 
-    go : (w.leads ≡ true) ⊎ (w.leads ≡ false) → (length x.intervals ≡ k.count) × (length x.ranks ≡ k.count)
-    go (inl t) = of (on_start w ready t x m).held.is_row
-    go (inr f) = absurd (none_on w ready f x m)
+  -- what the walk meets past a floor is the least of its rows above it
+  pub met : (floor o : option_code.Option Region) → o ≡ sought (first_above (found_of w.search.clocks.count floor) (rows_on w))
+      → First (Among (found_of k.count floor) (rows_on w)) (found_of k.count o)
+  met floor o m = subst (First (Among f (rows_on w))) (sym same) least
+    where
+      f : Option Row
+      f = found_of k.count floor
+
+      least : First (Among f (rows_on w)) (first_above f (rows_on w))
+      least = first_of f (rows_on w) (way_sorted w (ready_of w.search))
+
+      among : (o : Option Row) → First (Among f (rows_on w)) o → (x : Row) → o ≡ some x → Mem x (rows_on w)
+      among none l x q = absurd (none-ne-some x q)
+      among (some y) l x q = subst (λ (z : Row). Mem z (rows_on w)) (some-injective y x q) l.0.0
+
+      same : found_of k.count o ≡ first_above f (rows_on w)
+      same =
+          ap (found_of k.count) (m ∙ ap (λ (c : Clocks). sought (first_above (found_of c.count floor) (rows_on w))) e)
+          ∙ found_sought k.count (first_above f (rows_on w)) (λ x q. way_sized x (among (first_above f (rows_on w)) least x q))

@@ -5,7 +5,6 @@ use native.Mathlib.Omega.{arith}
 use mathlib.Core.Path.{◌≡◌, refl, sym, ap, subst, ◌∙◌}
 use mathlib.Core.Bool.{Bool, true, false}
 use mathlib.Core.Logic.{◌⊎◌, inl, inr}
-use mathlib.Core.Option.{none}
 use mathlib.Core.List.{List}
 use lib.ListN.{length}
 use Rattle.automata.specs.Row.{Row}
@@ -13,8 +12,10 @@ use Rattle.automata.specs.Automaton.{Table}
 use Rattle.automata.specs.Closed.{Mem}
 use Rattle.automata.specs.Successors.{wait_rows}
 use Rattle.automata.proofs.Laws.Tests.{never}
-use Rattle.regions.specs.Values.{bounds_of, sought}
-use Rattle.regions.specs.declared.region.Sought.{Sought}
+use Rattle.regions.specs.Values.{bounds_of}
+use Rattle.regions.specs.declared.clocks.Clocks.{Clocks}
+use Rattle.regions.specs.declared.region.Region.{Region}
+use Rattle.std.specs.Prelude.{Option, None, Some, is_some}
 use Rattle.table_files.specs.Admission.{table_of}
 use Rattle.table_records.specs.Edge.{after_edge}
 use Rattle.table_records.specs.declared.head.Head.{Head}
@@ -26,6 +27,11 @@ use Rattle.next_steps.specs.declared.stride.Stride as stride_code
 use Rattle.next_steps.specs.Steps.{due, into_final, plain, Settled, Asks, Follows}
 use Rattle.next_steps.proofs.Laws.Steps.{settled_more}
 use Rattle.next_steps.proofs.Laws.Asking.{waits_are}
+
+-- nothing is found
+nothing : (o : Option Region) → is_some o ≡ false → o ≡ None
+nothing None f = refl
+nothing (Some v) f = never (sym f)
 
 -- where the record of a step's edge begins
 abbrev pub Begins : List ℕ → Head → ℕ → ℕ → Type 0
@@ -73,7 +79,7 @@ pub record Along (T : Table) (rows : List Row) (r : Row) (step : ℕ) (entered :
 
 module _ {T : Table} {rows : List Row} {n : ℕ} {r : Row} {step : ℕ} {entered : Bool} where
   module _ {k : ℕ} {seen : Bool} (A : Along T rows r step entered k seen) where
-    module _ (in_range : k ≤ length T.edges) {next : Sought} {seen' : Bool} (Q : Asks T rows n k r seen next seen') where
+    module _ (in_range : k ≤ length T.edges) {next : Option Region} {seen' : Bool} (Q : Asks T rows n k r seen next seen') where
       enters_on : seen' ≡ true → (entered ≡ true) ⊎ ((m : ℕ) × (m ≤ length T.edges) × (s : Row) × Mem s (due T m r) × (into_final T m ≡ true))
       enters_on h = go (Q.enters h)
         where
@@ -85,7 +91,7 @@ module _ {T : Table} {rows : List Row} {n : ℕ} {r : Row} {step : ℕ} {entered
       still : (m : ℕ) → step ≤ m → m < k → plain T m ≡ true → Settled T rows seen' m r
       still m a b p = settled_more T rows rows seen seen' m r (λ x y. y) Q.stays (A.settled m a b p)
 
-      pub along_on : next.found ≡ false → Along T rows r step entered (k + 1) seen'
+      pub along_on : is_some next ≡ false → Along T rows r step entered (k + 1) seen'
       along_on f = record {
         above = A.above;
         on = omega (arith, A.on);
@@ -96,44 +102,46 @@ module _ {T : Table} {rows : List Row} {n : ℕ} {r : Row} {step : ℕ} {entered
       }
         where
           go : (m : ℕ) → step ≤ m → m < k + 1 → plain T m ≡ true → Dec (m ≡ k) → Settled T rows seen' m r
-          go m a b p (yes e) = subst (λ (t : ℕ). Settled T rows seen' t r) (sym e) (Q.settled f (subst (λ (t : ℕ). plain T t ≡ true) e p))
+          go m a b p (yes e) = subst (λ (t : ℕ). Settled T rows seen' t r) (sym e) (Q.settled (nothing next f) (subst (λ (t : ℕ). plain T t ≡ true) e p))
           go m a b p (no e) = still m a (omega arith) p
 
-      pub along_new : (f : next.found ≡ true) (here : ℕ) (none_found : Sought) → none_found ≡ sought none
-          → Follows T rows n step r entered (record { next = next; step = k; here = here; entered = seen'; «from» = none_found })
-      along_new f here z e = record {
+      pub along_new : is_some next ≡ true → (here : ℕ)
+          → Follows T rows n step r entered (record { next = next; step = k; here = here; entered = seen'; «from» = None })
+      along_new f here = record {
         on = A.on;
         settled = still;
-        all = λ g. never (sym g ∙ f);
-        new = λ _. Q.new f;
-        none_from = ap (λ (x : Sought). x.found) e;
+        all = λ g. never (sym (ap is_some g) ∙ f);
+        new = Q.new;
+        none_from = refl;
         stays = λ y. Q.stays (A.stays y);
         enters = enters_on;
       }
 
 -- waiting, and then the edges --------------------------------------------------------------------------------------------------------------------
 
-module _ (table : List ℕ) (head : Head) (D : Describes table head) (rows : List Row) (r : Row) (entered : Bool) where
+module _ (table : List ℕ) (head : Head) (D : Describes table head) (k : Clocks) (same : k ≡ head.clocks) (rows : List Row) (r : Row) (entered : Bool) where
   abbrev T₁ : Table
   T₁ = table_of table
 
   abbrev n₁ : ℕ
-  n₁ = head.clocks.count
+  n₁ = k.count
 
-  module _ (next : Sought) (N : NewOf n₁ (wait_rows (bounds_of head.clocks) r) rows next) where
-    pub waits_new : (f : next.found ≡ true) (here : ℕ) (none_found : Sought) → none_found ≡ sought none
-        → Follows T₁ rows n₁ 0 r entered (record { next = next; step = 0; here = here; entered = entered; «from» = none_found })
-    waits_new f here z e = record {
+  module _ (next : Option Region) (N : NewOf n₁ (wait_rows (bounds_of k) r) rows next) where
+    pub waits_new : is_some next ≡ true → (here : ℕ)
+        → Follows T₁ rows n₁ 0 r entered (record { next = next; step = 0; here = here; entered = entered; «from» = None })
+    waits_new f here = record {
       on = omega arith;
       settled = λ m a b p. absurd (omega arith);
-      all = λ g. never (sym g ∙ f);
-      new = λ _. record { in_range = omega arith; is_due = rw (waits_are table head D r) (N.next_row f); is_new = N.new f; outside = refl };
-      none_from = ap (λ (x : Sought). x.found) e;
+      all = λ g. never (sym (ap is_some g) ∙ f);
+      new = λ v g.
+          let (m, h) = subst (NewOf n₁ (wait_rows (bounds_of k) r) rows) g N in
+          record { in_range = omega arith; is_due = rw (waits_are table head D k same r) m; is_new = h; outside = refl };
+      none_from = refl;
       stays = λ y. y;
       enters = λ y. inl y;
     }
 
-    pub waits_on : next.found ≡ false → (q : stride_code.Stride) → Follows T₁ rows n₁ 1 r entered q → Follows T₁ rows n₁ 0 r entered q
+    pub waits_on : is_some next ≡ false → (q : stride_code.Stride) → Follows T₁ rows n₁ 1 r entered q → Follows T₁ rows n₁ 0 r entered q
     waits_on f q F = record {
       on = omega arith;
       settled = λ m a b p. go m b p;
@@ -145,5 +153,5 @@ module _ (table : List ℕ) (head : Head) (D : Describes table head) (rows : Lis
     }
       where
         go : (m : ℕ) → m < q.step → plain T₁ m ≡ true → Settled T₁ rows q.entered m r
-        go zero b p = inr (rw (waits_are table head D r) (N.none f))
+        go zero b p = inr (rw (waits_are table head D k same r) (subst (NewOf n₁ (wait_rows (bounds_of k) r) rows) (nothing next f) N))
         go (suc m) b p = F.settled (suc m) (omega arith) b p

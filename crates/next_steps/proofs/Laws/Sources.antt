@@ -2,7 +2,6 @@
 use Prim.Native.Nat.{ℕ, suc, ◌<◌}
 use mathlib.Core.Path.{◌≡◌, sym, ap, ◌∙◌}
 use mathlib.Core.Bool.{Bool}
-use mathlib.Core.Option.{none}
 use mathlib.Core.List.{List}
 use lib.ListN.{get_or}
 use Rattle.automata.specs.Row.{Row}
@@ -11,8 +10,7 @@ use Rattle.automata.specs.Automaton.{edge}
 use Rattle.automata.specs.Checks.{has}
 use Rattle.automata.proofs.Laws.Tests.{never}
 use Rattle.automata.proofs.Laws.Next.{edge_successors_are}
-use Rattle.regions.specs.Values.{sought}
-use Rattle.regions.specs.declared.region.Sought.{Sought}
+use Rattle.std.specs.Prelude.{None, is_some}
 use Rattle.skylines.proofs.Laws.NoNext.{edge_elsewhere}
 use Rattle.table_files.specs.Records.{part_at}
 use Rattle.table_files.specs.Admission.{table_of}
@@ -32,11 +30,11 @@ source_is S e = ap (λ (b : List ℕ). get_or b 2 0) e
 module _ (table : List ℕ) (head : Head) (D : Describes table head) (j : ℕ) (l : j < head.edges) (p : ℕ)
     (m : p ≡ edge_start head.clocks.count head.locations table j) (rows : List Row) (r : Row) where
   -- it leaves from elsewhere
-  pub asks_far : (r.location ≡ (edge_at head.clocks.count table p).source → ⊥) → (entered : Bool) (q : Sought) → q ≡ sought none
-      → Asks (table_of table) rows head.clocks.count (suc j) r entered q entered
-  asks_far h entered q e = record {
+  pub asks_far : {n : ℕ} → (r.location ≡ (edge_at head.clocks.count table p).source → ⊥) → (entered : Bool)
+      → Asks (table_of table) rows n (suc j) r entered None entered
+  asks_far {n} h entered = record {
     settled = λ _ _. inr (rw (edge_successors_are (table_of table) j r) (sym (edge_elsewhere (table_of table).bounds (edge (table_of table) j) r (has rows) away)));
-    new = λ f. never (sym (ap (λ (x : Sought). x.found) e) ∙ f);
+    new = λ v f. never (ap is_some f);
     stays = λ f. f;
     enters = λ f. inl f;
   }

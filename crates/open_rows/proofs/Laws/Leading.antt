@@ -2,15 +2,15 @@
 use Prim.Native.Nat.{ℕ, ◌+◌, ◌≤◌, ◌<◌}
 use native.Mathlib.Decide.{ℕ_discrete}
 use native.Mathlib.Omega.{arith}
-use mathlib.Core.Path.{◌≡◌, sym}
+use mathlib.Core.Path.{◌≡◌, sym, ap, ◌∙◌}
 use mathlib.Core.Bool.{true}
 use mathlib.Core.Logic.{◌⊎◌, inl, inr, ◌↔◌}
 use mathlib.Core.List.{List}
 use lib.ListN.{length}
 use Rattle.automata.specs.Row.{Row}
-use Rattle.automata.specs.Edge.{Edge, Bounded}
+use Rattle.automata.specs.Edge.{Bounded}
 use Rattle.automata.specs.Automaton.{Table, edge}
-use Rattle.automata.specs.Closed.{Mem, Ascends}
+use Rattle.automata.specs.Closed.{Mem}
 use Rattle.automata.specs.Successors.{wait_rows, edge_rows}
 use Rattle.automata.specs.Next.{time_successors, edge_successors, by_edges, next_rows}
 use Rattle.automata.specs.Checks.{every, has}
@@ -24,10 +24,16 @@ use Rattle.table_files.proofs.Laws.Admission.{admission_admitted}
 use Rattle.table_records.specs.declared.head.Head.{Head}
 use Rattle.tables.specs.Values.{Describes}
 use Rattle.listed_rows.specs.Listed.{listed_row, listed_rows}
-use Rattle.listed_rows.specs.Located.{RowsIn}
+use Rattle.listed_rows.specs.Located.{RowsIn, Stretch}
+use Rattle.listed_rows.specs.RegionLists.{nth_row, all_rows}
+use Rattle.listed_rows.specs.EdgesInLists.{bounds_in, edge_in}
+use Rattle.listed_rows.specs.declared.region_list.RegionList.{RegionList}
+use Rattle.listed_rows.specs.declared.edge_in_list.EdgeInList.{EdgeInList}
 use Rattle.listed_rows.proofs.Laws.Located.{between}
+use Rattle.listed_rows.proofs.Laws.RegionLists.{ascends_of}
 use Rattle.walked_rows.specs.Open.{Inside, FirstOpen}
-use Rattle.walked_rows.specs.Leading.{Stretch}
+use Rattle.walked_rows.specs.Leading.{LeadsIn}
+use Rattle.open_rows.specs.Leading.{NextIn}
 use Rattle.walked_rows.proofs.Laws.Open.{first_none, first_as, first_then}
 use Rattle.open_rows.proofs.Laws.Open.{first_within}
 
@@ -37,41 +43,41 @@ all_listed rows xs = every_law (has rows) (has_law rows) xs
 
 -- one edge -------------------------------------------------------------------------------------------------------------------------------
 
-module _ (n : ℕ) (list : List ℕ) (count : ℕ) (c : List ℕ) (e : Edge) (start stop : ℕ) (I : RowsIn n list count e.source start stop)
-    (a : Ascends (listed_rows n list count)) where
-  abbrev In : ℕ → Type 0
-  In = Inside (edge_rows c e) n list count
-
-  pub source_stretch : (end : ℕ) → start ≤ end → end ≤ stop → Stretch n list count e.source start end
+module _ (k : EdgeInList) (start stop : ℕ) (I : RowsIn k.list.clocks.count k.list.bytes.now k.list.count k.e.source start stop) where
+  pub source_stretch : (end : ℕ) → start ≤ end → end ≤ stop → Stretch k.list.clocks.count k.list.bytes.now k.list.count k.e.source start end
   source_stretch end h g = record { from = h; within = omega (arith, I.together.within); all = λ i l m. I.together.all i l (omega arith) }
 
-  -- it leads nowhere from the rows of other locations than its source
-  elsewhere : (i : ℕ) → i < count → ((start ≤ i) × (i < stop) → ⊥) → In i
-  elsewhere i l h = go (ℕ_discrete (listed_row n list i).location e.source)
+  -- the rows of its source are these
+  among : (i : ℕ) → i < k.list.count → (nth_row k.list i).location ≡ k.e.source → (start ≤ i) × (i < stop)
+  among = between k.list.clocks.count k.list.bytes.now k.list.count k.e.source start stop I.starts I.together (ascends_of k.list)
+
+  -- it leads nowhere from the rows of other locations
+  leads_if : (i : ℕ) → ((nth_row k.list i).location ≡ k.e.source → LeadsIn k i) → LeadsIn k i
+  leads_if i h = go (ℕ_discrete (nth_row k.list i).location k.e.source)
     where
-      go : Dec ((listed_row n list i).location ≡ e.source) → In i
-      go (yes q) = absurd (h (between n list count e.source start stop I.starts I.together a i l q))
-      go (no q) = sym (edge_elsewhere c e (listed_row n list i) (has (listed_rows n list count)) q)
+      go : Dec ((nth_row k.list i).location ≡ k.e.source) → LeadsIn k i
+      go (yes q) = h q
+      go (no q) = sym (edge_elsewhere (bounds_in k) (edge_in k) (nth_row k.list i) (has (all_rows k.list)) q)
 
-  module _ (end : ℕ) (short : end ≤ count) where
-    pub source_after : end ≤ start → FirstOpen In 0 end end
-    source_after h = first_none In 0 end (omega arith) (λ i g l. elsewhere i (omega arith) (λ q. omega (arith, q)))
+  elsewhere : (i : ℕ) → i < k.list.count → ((start ≤ i) × (i < stop) → ⊥) → LeadsIn k i
+  elsewhere i l h = leads_if i (λ q. absurd (h (among i l q)))
 
-    pub source_here : start ≤ end → end ≤ stop → (r : ℕ) → FirstOpen In start end r → FirstOpen In 0 end r
+  module _ (end : ℕ) (short : end ≤ k.list.count) where
+    pub source_after : end ≤ start → FirstOpen (LeadsIn k) 0 end end
+    source_after h = first_none (LeadsIn k) 0 end (omega arith) (λ i g l. elsewhere i (omega arith) (λ q. omega (arith, q)))
+
+    pub source_here : start ≤ end → end ≤ stop → (r : ℕ) → FirstOpen (LeadsIn k) start end r → FirstOpen (LeadsIn k) 0 end r
     source_here h g r F = record {
       from = omega arith;
       to = F.to;
-      before = λ i _ l. go i l (ℕ_discrete (listed_row n list i).location e.source);
+      before = λ i _ l. leads_if i (λ q. F.before i (among i (omega (arith, F.to)) q).0 l);
       here = F.here;
     }
-      where
-        go : (i : ℕ) → i < r → Dec ((listed_row n list i).location ≡ e.source) → In i
-        go i l (yes q) = F.before i (between n list count e.source start stop I.starts I.together a i (omega (arith, F.to)) q).0 l
-        go i l (no q) = sym (edge_elsewhere c e (listed_row n list i) (has (listed_rows n list count)) q)
 
-    pub source_before : stop ≤ end → (r : ℕ) → FirstOpen In start stop r → (r < stop → FirstOpen In 0 end r) × (stop ≤ r → FirstOpen In 0 end end)
+    pub source_before : stop ≤ end → (r : ℕ) → FirstOpen (LeadsIn k) start stop r
+        → (r < stop → FirstOpen (LeadsIn k) 0 end r) × (stop ≤ r → FirstOpen (LeadsIn k) 0 end end)
     source_before h r F =
-        first_within In start stop end I.together.from h (λ i l. elsewhere i (omega (arith, I.together.from, I.together.within)) (λ q. omega (arith, q)))
+        first_within (LeadsIn k) start stop end I.together.from h (λ i l. elsewhere i (omega (arith, I.together.from, I.together.within)) (λ q. omega (arith, q)))
         (λ i g l. elsewhere i (omega arith) (λ q. omega (arith, q))) r F
 
 -- edge by edge ---------------------------------------------------------------------------------------------------------------------------
@@ -142,20 +148,19 @@ module _ (T : Table) (n : ℕ) (list : List ℕ) (count : ℕ) where
       first_then (Inside (wait_rows T.bounds) n list count) (Inside (by_edges T) n list count) 0 count (Inside (next_rows T) n list count) (λ i a b. next_inside i) m F r G
 
 -- the edge that the code reads is the table's
-module _ (table : List ℕ) (head : Head) (D : Describes table head) (k : ℕ) (l : k < head.edges) (e : edge_code.Edge)
+module _ (table : List ℕ) (head : Head) (D : Describes table head) (k : ℕ) (h : k < head.edges) (l : RegionList) (same : l.clocks ≡ head.clocks) (e : edge_code.Edge)
     (means : edge_of head.clocks.count e ≡ edge (table_of table) k) where
   edge_there : k < length (table_of table).edges
   edge_there = omega (arith, D.edges)
 
-  pub edge_bounded : Bounded (bounds_of head.clocks) (edge_of head.clocks.count e)
-  edge_bounded = let (records, p) = D.passes in rw (D.bounds, means) ((admission_admitted table records p).bounded k edge_there)
+  pub edge_bounded : Bounded (bounds_of l.clocks) (edge_of l.clocks.count e)
+  edge_bounded = let (records, p) = D.passes in rw (same, D.bounds, means) ((admission_admitted table records p).bounded k edge_there)
 
-  pub edge_rule : (list : List ℕ) (count end r : ℕ) → FirstOpen (Inside (edge_rows (bounds_of head.clocks) (edge_of head.clocks.count e)) head.clocks.count list count) 0 end r
-      → FirstOpen (Inside (edge_successors (table_of table) k) head.clocks.count list count) 0 end r
-  edge_rule list count end r F = rw rule at F
+  rule : edge_rows (bounds_of l.clocks) (edge_of l.clocks.count e) ≡ edge_successors (table_of table) k
+  rule i r = next r i
     where
-      same : (r : Row) → edge_rows (bounds_of head.clocks) (edge_of head.clocks.count e) r ≡ edge_successors (table_of table) k r
-      same r = rw (D.bounds, means) (sym (edge_successors_are (table_of table) k r))
+      next : (r : Row) → edge_rows (bounds_of l.clocks) (edge_of l.clocks.count e) r ≡ edge_successors (table_of table) k r
+      next r = rw (same, D.bounds, means) (sym (edge_successors_are (table_of table) k r))
 
-      rule : edge_rows (bounds_of head.clocks) (edge_of head.clocks.count e) ≡ edge_successors (table_of table) k
-      rule i r = same r i
+  pub edge_rule : (g : EdgeInList) → g.list ≡ l → g.e ≡ e → LeadsIn g ≡ NextIn l (edge_successors (table_of table) k)
+  edge_rule g here is = (λ t. NextIn (here t) (edge_rows (bounds_of (here t).clocks) (edge_of (here t).clocks.count (is t)))) ∙ ap (NextIn l) rule

@@ -1,33 +1,28 @@
 -- The rows with the same intervals that the moves allow: which they are, and when all of them are allowed. Assumes nothing.
-use Prim.Native.Nat.{ℕ, zero, suc, ◌+◌, ◌*◌, ◌-◌, ◌<◌, ◌%◌}
+use Prim.Native.Nat.{ℕ, ◌+◌, ◌%◌}
 use native.Mathlib.Omega.{arith}
 use mathlib.Core.Path.{◌≡◌, refl, sym, ap, subst, ◌∙◌}
-use mathlib.Core.Bool.{Bool, true, false, not, ◌&&◌, ◌||◌}
+use mathlib.Core.Bool.{true, false, not, ◌&&◌}
 use mathlib.Core.Logic.{◌⊎◌, inl, inr}
 use mathlib.Core.List.{List, map}
-use lib.ListN.{get_or, take}
+use lib.ListN.{take}
 use lib.Dec.{eqb}
 use borrow.Author.Tests.{le-leb}
-use Rattle.automata.specs.Clocks.{at}
 use Rattle.automata.specs.Row.{Row, Before, Below}
 use Rattle.automata.specs.Closed.{Mem}
 use Rattle.automata.specs.Rows.{isrowb, rank_lists}
-use Rattle.automata.specs.Successors.{least}
 use Rattle.regions.specs.Move.{fits_at, permitsb}
-use Rattle.regions.specs.Placing.{still, clock_fits_at, rank_fits_at, greedy_at, placed_at}
 use Rattle.regions.specs.Values.{bounds_of}
 use Rattle.regions.specs.declared.clock_move.Move.{Move}
 use Rattle.regions.specs.declared.region.Region.{Region}
 use Rattle.rankings.specs.Ranking.{ranked_rows, rows_ranked}
 use Rattle.edge_walk.specs.Choice.{allowsb, Candidate}
-use Rattle.edge_walk.specs.declared.choice.Search.{Search}
+use Rattle.edge_walk.specs.declared.search.Search.{Search}
 use Rattle.ranked_ways.specs.Allowed.{rows_allowed, partedb}
-use Rattle.automata.proofs.Laws.Tests.{never, true_or_false, refutes, eqb_law, and_law, not_law, allb_law, same_test}
+use Rattle.automata.proofs.Laws.Tests.{never, true_or_false, refutes, eqb_law, and_law, not_law}
 use Rattle.automata.proofs.Laws.Members.{map_in, map_out, select_in, select_out, Sorted, sorted_select, sorted_map}
 use Rattle.automata.proofs.Laws.Rows.{isrowb_law, rank_lists_in, rank_lists_sorted}
 use Rattle.regions.proofs.Laws.Move.{freeb, by_partsb, fits_free, fits_fixed, permits_free, permits_fixed}
-use Rattle.regions.proofs.Laws.Placing.{placed_less}
-use Rattle.regions.proofs.Laws.Values.{at_take}
 
 -- which they are ---------------------------------------------------------------------------------------------------------------
 
@@ -86,34 +81,3 @@ loose_fits m j p h f = go (true_or_false (freeb m j)) (true_or_false (by_partsb 
         below : j + m.shift ≡ m.reference → (eqb j m.top ≡ true) ⊎ (eqb j m.top ≡ false) → eqb j m.top ≡ false
         below e (inr t) = t
         below e (inl t) = never (sym a ∙ rw (t, le-leb (j + m.shift) m.reference (omega arith)))
-
--- a test that all pass has the position 0 for every rank
-greedy_free : (t : ℕ → ℕ → Bool) (g : ℕ) → ((a p : ℕ) → t a p ≡ true) → (a : ℕ) → greedy_at t g a ≡ 0
-unfolding greedy_at least
-greedy_free t g h zero = refl
-greedy_free t g h (suc a) = rw (greedy_free t g h a) (first (2 * g + 1 - 0) (omega arith))
-  where
-    first : (k : ℕ) → 0 < k → least (t (suc a)) k 0 ≡ 0
-    first zero l = absurd (omega arith)
-    first (suc k) l = rw (h (suc a) 0)
-
-module _ (ms : List Move) (g n : ℕ) (js ks : List ℕ) where
-  pub placed_free : ((z : ℕ) → z < n → (p : ℕ) → fits_at (get_or ms z still) (at js z) p ≡ true) → placed_at ms g n js ks ≡ true
-  unfolding placed_at rank_fits_at
-  placed_free h = rw (fits 0 0, greedy_free (rank_fits_at ms n js ks) g fits _, le-leb 0 (2 * g) (omega arith))
-    where
-      or_true : (b : Bool) → b || true ≡ true
-      or_true true = refl
-      or_true false = refl
-
-      fits : (a p : ℕ) → rank_fits_at ms n js ks a p ≡ true
-      fits a p = (allb_law n (clock_fits_at ms js ks a p) (λ z. (λ (t : clock_fits_at ms js ks a p z ≡ true). t, λ (t : clock_fits_at ms js ks a p z ≡ true). t))).1
-          (λ z l. rw (h z l p) (or_true (not (eqb (at ks z) a))))
-
-  -- the numbers past the clocks do not matter
-  pub placed_first : placed_at ms g n js ks ≡ placed_at ms g n (take n js) (take n ks)
-  placed_first =
-      same_test _ _ (λ (t : placed_at ms g n js ks ≡ true). t, λ (t : placed_at ms g n js ks ≡ true). t) (
-        placed_less ms g n n (take n js) (take n ks) js ks (omega arith) (λ z l. (at_take n js z l, at_take n ks z l)),
-        placed_less ms g n n js ks (take n js) (take n ks) (omega arith) (λ z l. (sym (at_take n js z l), sym (at_take n ks z l))),
-      )

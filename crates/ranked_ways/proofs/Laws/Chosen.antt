@@ -14,7 +14,7 @@ use Rattle.regions.specs.Values.{row_of}
 use Rattle.regions.specs.declared.region.Region.{Region}
 use Rattle.edge_walk.specs.Choice.{Candidate, Ready}
 use Rattle.edge_walk.specs.Stand.{Begun, Ahead, Standing}
-use Rattle.edge_walk.specs.declared.choice.Search.{Search}
+use Rattle.edge_walk.specs.declared.search.Search.{Search}
 use Rattle.edge_walk.specs.declared.stand.Stand.{Stand}
 use Rattle.ranked_ways.specs.Allowed.{rows_allowed, rows_chosen}
 use Rattle.regions.proofs.Laws.Values.{length_first, length_padded}

@@ -21,14 +21,15 @@ use Rattle.rankings.specs.Table.{table}
 use Rattle.rankings.proofs.Laws.Ranking.{pattern_less, pattern_low}
 use Rattle.regions.specs.Values.{row_of}
 use Rattle.edge_walk.specs.Choice.{allowsb}
-use Rattle.edge_walk.specs.declared.choice.Search.{Search}
+use Rattle.edge_walk.specs.declared.search.Search.{Search}
 use Rattle.ranked_ways.specs.Allowed.{partedb, parted_at, Permitted}
 use Rattle.ranked_ways.specs.Memo.{rank_fits_by, placed_by, memo_place, Remembers, marked, Kept}
 use Rattle.automata.proofs.Laws.Tests.{true_or_false, and_law, not_law}
 use Rattle.automata.proofs.Laws.Lists.{zeros}
 use Rattle.regions.proofs.Laws.Move.{by_partsb, fits_parts}
 use Rattle.regions.proofs.Laws.Placing.{allb_same}
-use Rattle.ranked_ways.proofs.Laws.Allowed.{loose_fits, placed_free, placed_first}
+use Rattle.edge_walk.proofs.Laws.Allowing.{placed_everywhere, placed_first}
+use Rattle.ranked_ways.proofs.Laws.Allowed.{loose_fits}
 
 -- which rankings are allowed -----------------------------------------------------------------------------------------------------
 
@@ -173,7 +174,7 @@ module _ (s : Search) (part region : Region) (memo : List ℕ) (K : Kept s memo)
 
   pub free_known : parts ≡ 0 → placed ≡ true
   free_known d =
-      placed_free s.moves.each s.moves.ranks n region.intervals region.ranks
+      placed_everywhere s.moves.each s.moves.ranks n region.intervals region.ranks
       (λ z h p. rw q (loose_fits (get_or s.moves.each z still) (at part.intervals z) p (permitted z h) (none_parted flag n (sym e ∙ d) z h)))
 
   pub one_known : at memo (parts * 150 + i) ≡ 1 → placed ≡ false

@@ -13,7 +13,7 @@ use Rattle.edge_walk.specs.Choice.{Ready}
 use Rattle.edge_walk.specs.Stand.{Begun, Ahead, Advance}
 use Rattle.edge_walk.specs.Intervals.{Chosen}
 use Rattle.edge_walk.specs.Visit.{AllPass}
-use Rattle.edge_walk.specs.declared.choice.Search.{Search}
+use Rattle.edge_walk.specs.declared.search.Search.{Search}
 use Rattle.edge_walk.specs.declared.stand.Stand.{Stand}
 use Rattle.ranked_ways.specs.Allowed.{rows_chosen}
 use Rattle.automata.proofs.Laws.Tests.{Says, never}

@@ -17,7 +17,7 @@ use Rattle.automata.specs.Closed.{Mem}
 use Rattle.automata.specs.Rows.{openb, isrowb, from, select, choices, rank_lists}
 use Rattle.automata.specs.Rankings.{open_clocks, rankings}
 use Rattle.regions.specs.Values.{bounds_of, row_of, padded}
-use Rattle.regions.specs.declared.region.Clocks.{Clocks}
+use Rattle.regions.specs.declared.clocks.Clocks.{Clocks}
 use Rattle.regions.specs.declared.region.Region.{Region}
 use Rattle.rankings.specs.Ranking.{ranked_rows, rows_ranked, InRange, weight, pattern, pattern_of}
 use Rattle.automata.proofs.Laws.Tests.{Says, never, eqb_law, leb_law, ltb_law, and_law, implies_law, allb_law, someb_law, same_test}

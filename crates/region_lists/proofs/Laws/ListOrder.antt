@@ -15,13 +15,7 @@ use Rattle.automata.specs.Checks.{belowb}
 use Rattle.table_files.specs.Reading.{good, bad, carry, require}
 use Rattle.calls.specs.RegionFile.{ascending, none_final}
 use Rattle.listed_rows.specs.Listed.{listed_row, listed_rows}
-use Rattle.region_lists.specs.RegionList.{passed}
 use Rattle.listed_rows.proofs.Laws.Listed.{listed_length, listed_at, listed_again}
-
--- a pass that ended at a place
-pub passed_at : (number place : ℕ) → (place ≡ 0 → ⊥) → (file : List ℕ) → passed number place file ≡ bad number place
-passed_at number zero h file = absurd (h refl)
-passed_at number (suc place) h file = refl
 
 pub drop_next : (rows : List Row) (i : ℕ) (d : Row) → i < length rows → drop i rows ≡ get_or rows i d ∷ drop (i + 1) rows
 drop_next rows i d h = drop-cons rows i d h ∙ ap (λ (k : ℕ). get_or rows i d ∷ drop k rows) (sym (add-one i))
@@ -66,13 +60,13 @@ module _ (n : ℕ) (list : List ℕ) (count : ℕ) where
       so_far = λ file. S.so_far file ∙ rw (two_rows l, b, rest_is (i + 1) l);
     }
 
-    ordered_fails : i + 1 < count → belowb (listed_row n list i) (listed_row n list (i + 1)) ≡ false → (file : List ℕ) → ascending 1 rows file ≡ passed 14 (i + 2) file
+    ordered_fails : i + 1 < count → belowb (listed_row n list i) (listed_row n list (i + 1)) ≡ false → (file : List ℕ) → ascending 1 rows file ≡ bad 14 (i + 2)
     unfolding ascending carry require
     ordered_fails l b file =
         let e : i + 1 + 1 ≡ i + 2 = omega arith in
-        S.so_far file ∙ rw (two_rows l, b, e) (sym (passed_at 14 (i + 2) (λ z. omega arith) file))
+        S.so_far file ∙ rw (two_rows l, b, e)
 
-    ordered_all : count ≤ i + 1 → (file : List ℕ) → ascending 1 rows file ≡ passed 14 0 file
+    ordered_all : count ≤ i + 1 → (file : List ℕ) → ascending 1 rows file ≡ good tt file
     ordered_all l file = S.so_far file ∙ short_ascends (i + 1) (drop i rows) file (rw length-drop (omega (arith, listed_length n list count)))
 
   -- row i, which is read again, is above the row before it
@@ -87,20 +81,20 @@ module _ (n : ℕ) (list : List ℕ) (count : ℕ) where
   ordered_so_far (suc i) l h = rw add-one at (ordered_on i (ordered_so_far i (omega arith) (λ k a b. h k a (omega arith))) (omega arith) (sym (above_is i) ∙ h (i + 1) (omega arith) (omega arith)))
 
   -- every row is
-  pub all_above : ((k : ℕ) → 1 ≤ k → k < count → above k ≡ true) → (file : List ℕ) → ascending 1 rows file ≡ passed 14 0 file
+  pub all_above : ((k : ℕ) → 1 ≤ k → k < count → above k ≡ true) → (file : List ℕ) → ascending 1 rows file ≡ good tt file
   all_above h = go (dec_le count 1)
     where
-      go : Dec (count ≤ 1) → (file : List ℕ) → ascending 1 rows file ≡ passed 14 0 file
+      go : Dec (count ≤ 1) → (file : List ℕ) → ascending 1 rows file ≡ good tt file
       go (yes l) = ordered_all 0 ordered_none (omega arith)
       go (no l) = ordered_all (count - 1) (ordered_so_far (count - 1) (omega arith) (λ k a b. h k a (omega arith))) (omega arith)
 
   -- row i is the first that is not
-  pub first_below : (i : ℕ) → 1 ≤ i → i < count → above i ≡ false → ((k : ℕ) → 1 ≤ k → k < i → above k ≡ true) → (file : List ℕ) → ascending 1 rows file ≡ passed 14 (i + 1) file
+  pub first_below : (i : ℕ) → 1 ≤ i → i < count → above i ≡ false → ((k : ℕ) → 1 ≤ k → k < i → above k ≡ true) → (file : List ℕ) → ascending 1 rows file ≡ bad 14 (i + 1)
   first_below zero a l b h file = absurd (omega arith)
   first_below (suc i) a l b h file =
       let e : i + 2 ≡ suc i + 1 = omega arith in
       ordered_fails i (ordered_so_far i (omega arith) (λ k x y. h k x (omega arith))) (omega arith) (sym (above_is i) ∙ ap above (add-one i) ∙ b) file
-      ∙ ap (λ (p : ℕ). passed 14 p file) e
+      ∙ ap (bad 14) e
 
   -- 15 ---------------------------------------------------------------------------------------------------------------------------
 
@@ -118,11 +112,11 @@ module _ (n : ℕ) (list : List ℕ) (count : ℕ) where
       unfolding none_final carry require
       final_on l b = record { within = omega arith; so_far = λ file. S.so_far file ∙ rw (rest_is i l, b) }
 
-      final_found : i < count → final T (listed_row n list i).location ≡ true → (file : List ℕ) → none_final T 1 rows file ≡ passed 15 (i + 1) file
+      final_found : i < count → final T (listed_row n list i).location ≡ true → (file : List ℕ) → none_final T 1 rows file ≡ bad 15 (i + 1)
       unfolding none_final carry require
-      final_found l b file = S.so_far file ∙ rw (rest_is i l, b) (sym (passed_at 15 (i + 1) (λ z. omega arith) file))
+      final_found l b file = S.so_far file ∙ rw (rest_is i l, b)
 
-      final_all : count ≤ i → (file : List ℕ) → none_final T 1 rows file ≡ passed 15 0 file
+      final_all : count ≤ i → (file : List ℕ) → none_final T 1 rows file ≡ good tt file
       unfolding none_final
       final_all l file = S.so_far file ∙ rw (ended i l)
 
@@ -131,10 +125,10 @@ module _ (n : ℕ) (list : List ℕ) (count : ℕ) where
     finals_so_far (suc i) l h = rw add-one at (final_on i (finals_so_far i (omega arith) (λ k a b. h k a (omega arith))) (omega arith) (h i (omega arith) (omega arith)))
 
     -- no row has one
-    pub none_are_final : ((k : ℕ) → 0 ≤ k → k < count → final T (listed_row n list k).location ≡ false) → (file : List ℕ) → none_final T 1 rows file ≡ passed 15 0 file
+    pub none_are_final : ((k : ℕ) → 0 ≤ k → k < count → final T (listed_row n list k).location ≡ false) → (file : List ℕ) → none_final T 1 rows file ≡ good tt file
     none_are_final h = final_all count (finals_so_far count (omega arith) h) (omega arith)
 
     -- row i is the first that has one
     pub first_is_final : (i : ℕ) → i < count → final T (listed_row n list i).location ≡ true → ((k : ℕ) → 0 ≤ k → k < i → final T (listed_row n list k).location ≡ false)
-        → (file : List ℕ) → none_final T 1 rows file ≡ passed 15 (i + 1) file
+        → (file : List ℕ) → none_final T 1 rows file ≡ bad 15 (i + 1)
     first_is_final i l b h = final_found i (finals_so_far i (omega arith) h) l b

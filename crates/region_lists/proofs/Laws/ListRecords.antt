@@ -2,7 +2,7 @@
 use Prim.Native.Nat.{ℕ, zero, suc, ◌+◌, ◌*◌, ◌-◌, ◌≤◌, ◌<◌}
 use native.Mathlib.Nat.{zero-add, add-zero, add-mul, one-mul, sub-zero, mul-le-mul_right}
 use native.Mathlib.Omega.{arith}
-use mathlib.Core.Path.{◌≡◌, refl, sym, ap, ◌∙◌}
+use mathlib.Core.Path.{◌≡◌, refl, sym, ap, subst, ◌∙◌}
 use mathlib.Core.Bool.{true}
 use mathlib.Core.List.{List, [], ◌∷◌, ◌++◌, map, append_assoc, append-nil}
 use lib.ListN.{length, take, drop, length-append, length-drop}
@@ -21,24 +21,26 @@ use Rattle.calls.specs.RegionFile.{row_width, row_in, row_record, region_file, r
 use Rattle.listed_rows.specs.Listed.{listed_row, listed_rows}
 use Rattle.calls.proofs.Laws.RecordReads.{record_missing, record_there, record_length}
 use Rattle.listed_rows.proofs.Laws.Listed.{listed_length}
-use Rattle.region_lists.specs.RegionList.{Told}
+use Rattle.regions.specs.declared.region.Region.{Region}
+use Rattle.rows.specs.Row.{ReadsRow}
+use Rattle.std.specs.Prelude.{Result, Ok, Err, MatchResult, IsErrAnd}
+use Rattle.table_records.specs.Refusal.{number_of}
+use Rattle.table_records.specs.declared.refusal.Fault.{Fault}
+use Rattle.table_records.specs.declared.refusal.Refusal.{Refusal}
 
--- how a reading ended ---------------------------------------------------------------------------------------------------------------
+-- how the reading of a row ended -----------------------------------------------------------------------------------------------------
 
-module _ {A : Type 0} where
-  pub told_good : (r : Read A) (a : A) (rest : List ℕ) (place : ℕ) → r ≡ good a rest → Told r 0 place
-  told_good r a rest place e = rw e refl
+-- a row was read; or the reader's fault, at a place
+module _ (T : Table) (file : List ℕ) (p place : ℕ) where
+  abbrev pub RowTold : Result Region Refusal → Type 0
+  RowTold (Ok region) = ReadsRow T file p (Ok region)
+  RowTold (Err e) = row_record T place (drop p file) ≡ bad (number_of e.fault) e.place
 
-  pub told_bad : (r : Read A) (number place : ℕ) → (number ≡ 0 → ⊥) → r ≡ bad number place → Told r number place
-  told_bad r number place h e = rw e (omega arith, refl, refl)
-
-  pub was_good : (r : Read A) (number place : ℕ) → Told r number place → number ≡ 0 → (a : A) × (rest : List ℕ) × (r ≡ good a rest)
-  was_good (good a rest) number place t e = (a, rest, refl)
-  was_good (bad n p) number place (some, q, _) e = absurd (omega arith)
-
-  pub was_bad : (r : Read A) (number place : ℕ) → Told r number place → (number ≡ 0 → ⊥) → r ≡ bad number place
-  was_bad (good a rest) number place t h = absurd (h t)
-  was_bad (bad n p) number place (_, q, e) h = λ i. bad (sym q i) (sym e i)
+  pub told_by : {P : Fault → Refusal → Type 0} (s : Result Region Fault) (t : Result Region Refusal) → ReadsRow T file p s → MatchResult s (λ region. t ≡ Ok region) (λ fault. IsErrAnd t (P fault))
+      → ((fault : Fault) (e : Refusal) → P fault e → e ≡ record { fault = fault; place = place }) → RowTold t
+  told_by (Ok region) t R h k = subst RowTold (sym h) R
+  told_by (Err fault) (Ok region) R h k = absurd h
+  told_by (Err fault) (Err e) R h k = rw (k fault e h) (R place)
 
 -- the rows -------------------------------------------------------------------------------------------------------------------------
 
@@ -205,16 +207,9 @@ module _ (T : Table) (list : List ℕ) where
 pub few_bytes : (count n : ℕ) → count ≤ 4096 → n ≤ 4 → count * row_width n ≤ 45056
 few_bytes count n h k = let m : count * row_width n ≤ 4096 * row_width n = mul-le-mul_right (row_width n) h in omega (arith, row_width_is n)
 
--- how the reading of a list ended, with the count of its rows
-abbrev pub ListTold : Table → List ℕ → ℕ → ℕ → ℕ → Type 0
-ListTold T list number place count = Told (region_file T list) number place × (number ≡ 0 → length (rows_of T list) ≡ count)
-
-pub list_told_bad : (T : Table) (list : List ℕ) (number place count : ℕ) → (number ≡ 0 → ⊥) → region_file T list ≡ bad number place → ListTold T list number place count
-list_told_bad T list number place count h e = (told_bad (region_file T list) number place h e, λ z. absurd (h z))
-
 module _ (T : Table) (list header : List ℕ) (e : header ≡ record_at list 0 4 RL) where
-  pub head_missing : length header ≡ 0 → ListTold T list 7 0 0
-  head_missing h = list_told_bad T list 7 0 0 (λ z. omega arith) (list_missing T list (sym (ap length e) ∙ h))
+  pub head_missing : length header ≡ 0 → region_file T list ≡ bad 7 0
+  head_missing h = list_missing T list (sym (ap length e) ∙ h)
 
   module _ (h : length header ≡ 0 → ⊥) where
     some_head : length (list_head T list) ≡ 0 → ⊥
@@ -227,33 +222,30 @@ module _ (T : Table) (list header : List ℕ) (e : header ≡ record_at list 0 4
       count_is : count ≡ two (list_head T list) 2
       count_is = q ∙ ap (λ (b : List ℕ). two b 2) e
 
-      pub too_many : 4096 < count → ListTold T list 8 0 0
-      too_many l = list_told_bad T list 8 0 0 (λ z. omega arith) (list_long T list some_head (rw count_is at l))
+      pub too_many : 4096 < count → region_file T list ≡ bad 8 0
+      too_many l = list_long T list some_head (rw count_is at l)
 
-      module _ (few : count ≤ 4096) (number place : ℕ) (t : Told (records (row_record T) 1 count (drop 4 list)) number place) where
+      module _ (few : count ≤ 4096) where
         few_rows : two (list_head T list) 2 ≤ 4096
         few_rows = rw count_is at few
 
-        pub row_refused : (m : ℕ) → (number ≡ 0 → ⊥) → ListTold T list number place m
-        row_refused m z =
-            list_told_bad T list number place m z
-            (list_refused T list some_head few_rows number place (rw count_is at (was_bad (records (row_record T) 1 count (drop 4 list)) number place t z)))
+        pub row_refused : {number place : ℕ} → records (row_record T) 1 count (drop 4 list) ≡ bad number place → region_file T list ≡ bad number place
+        row_refused g = list_refused T list some_head few_rows _ _ (rw count_is at g)
 
-        module _ (z : number ≡ 0) (n : ℕ) (clocks_are : n ≡ clocks T) where
+        module _ (g : (rows : List Row) × (rest : List ℕ) × (records (row_record T) 1 count (drop 4 list) ≡ good rows rest)) (n : ℕ) (clocks_are : n ≡ clocks T) where
           rows_good : (rows : List Row) × (rest : List ℕ) × (records (row_record T) 1 (two (list_head T list) 2) (drop 4 list) ≡ good rows rest)
-          rows_good = rw count_is at (was_good (records (row_record T) 1 count (drop 4 list)) number place t z)
+          rows_good = rw count_is at g
 
           end_is : 4 + count * row_width n ≡ 4 + two (list_head T list) 2 * row_width (clocks T)
           end_is = λ i. 4 + count_is i * row_width (clocks_are i)
 
-          pub bytes_follow : 4 + count * row_width n < length list → ListTold T list 9 (1 + count) 0
-          bytes_follow l =
-              let (rows, rest, g) = rows_good in
-              list_told_bad T list 9 (1 + count) 0 (λ z. omega arith) (rw count_is (list_more T list some_head few_rows rows rest g (rw end_is at l)))
+          pub bytes_follow : 4 + count * row_width n < length list → region_file T list ≡ bad 9 (1 + count)
+          bytes_follow l = let (rows, rest, g) = rows_good in rw count_is (list_more T list some_head few_rows rows rest g (rw end_is at l))
 
-          pub all_read : length list ≤ 4 + count * row_width n → ListTold T list 0 0 count
+          -- all is read, with the count of rows
+          pub all_read : length list ≤ 4 + count * row_width n → ((rows : List Row) × (rest : List ℕ) × (region_file T list ≡ good rows rest)) × (length (rows_of T list) ≡ count)
           unfolding rows_of
           all_read l =
               let (rows, rest, g) = rows_good in
               let good_file : region_file T list ≡ good rows rest = list_read T list some_head few_rows rows rest g (rw end_is at l) in
-              (told_good (region_file T list) rows rest 0 good_file, λ _. ap (λ (r : Read (List Row)). length (rows_read r)) good_file ∙ ap length (list_there T list some_head few_rows rows rest g).0 ∙ listed_length (clocks T) list (two (list_head T list) 2) ∙ sym count_is)
+              ((rows, rest, good_file), ap (λ (r : Read (List Row)). length (rows_read r)) good_file ∙ ap length (list_there T list some_head few_rows rows rest g).0 ∙ listed_length (clocks T) list (two (list_head T list) 2) ∙ sym count_is)

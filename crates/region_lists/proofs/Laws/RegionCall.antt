@@ -1,60 +1,31 @@
 -- The call that checks a region list: what it answers, and what that promises. Assumes nothing.
 use Prim.Native.Nat.{ℕ, ◌≤◌, ◌<◌}
 use native.Mathlib.Omega.{arith}
-use mathlib.Core.Path.{◌≡◌, refl, sym, ap, ◌∙◌}
+use mathlib.Core.Path.{◌≡◌, sym, ap, ◌∙◌}
 use mathlib.Core.Logic.{◌↔◌}
 use mathlib.Core.List.{List}
 use lib.ListN.{length}
 use Rattle.automata.specs.Row.{Row}
-use Rattle.automata.specs.Automaton.{Table}
 use Rattle.automata.specs.Run.{Reached}
 use Rattle.automata.specs.Closed.{Closed}
 use Rattle.table_files.specs.Bytes.{AreBytes}
 use Rattle.table_files.specs.Answer.{Answer, accepted, refused, packed}
-use Rattle.table_files.specs.Reading.{Read, good, bad, carry, answered}
-use Rattle.table_files.specs.Admission.{admitted, admission, table_of}
+use Rattle.table_files.specs.Reading.{bad, carry, answered}
+use Rattle.table_files.specs.Admission.{admitted, table_of}
 use Rattle.table_files.specs.Meaning.{Passes}
-use Rattle.tables.specs.Values.{Describes, Opens}
-use Rattle.table_records.specs.declared.head.Opened.{Opened}
+use Rattle.tables.specs.Values.{Describes}
 use Rattle.table_records.specs.declared.head.Head.{Head}
 use Rattle.calls.specs.RegionFile.{region_file, list_checked, list_answer, list_bytes}
 use Rattle.calls.specs.Meaning.{Small, RegionListOf}
-use Rattle.region_lists.specs.RegionList.{Told}
-use Rattle.region_lists.proofs.Laws.ListRecords.{was_good, was_bad, told_good}
-use Rattle.calls.proofs.Laws.SmallAnswers.{admission_small, list_small}
+use Rattle.calls.proofs.Laws.SmallAnswers.{list_small}
 use Rattle.calls.proofs.Laws.RegionLists.{list_over, list_law}
 use Rattle.calls.proofs.Laws.Claims.{list_empty, closed_accepted}
 
 -- 1 to 6 -------------------------------------------------------------------------------------------------------------------------------
 
--- no refusal of a table has number 0
-some_number : (table : List ℕ) (number place : ℕ) → admitted table ≡ bad number place → number ≡ 0 → ⊥
-unfolding admission
-some_number table number place e z =
-    let s : 1 ≤ number = (rw e at (admission_small table)).0 in
-    omega arith
-
-module _ (table : List ℕ) (o : Opened) (h : Opens table o) where
-  if_good : (T : Table) (rest : List ℕ) → admitted table ≡ good T rest → (o.number ≡ 0) × Describes table o.head
-  if_good T rest e = rw e at h
-
-  if_bad : (number place : ℕ) → admitted table ≡ bad number place → (o.number ≡ number) × (o.place ≡ place)
-  if_bad number place e = rw e at h
-
-  pub opened_refused : (list : List ℕ) → (o.number ≡ 0 → ⊥) → refused o.number o.place ≡ list_answer table list
-  unfolding list_answer carry
-  opened_refused list n = go (admitted table) refl
-    where
-      go : (r : Read Table) → admitted table ≡ r → refused o.number o.place ≡ answered length (carry r (λ T _. list_checked T list))
-      go (good T rest) e = absurd (n (if_good T rest e).0)
-      go (bad number place) e = let (p, q) = if_bad number place e in λ i. refused (p i) (q i)
-
-  pub opened_good : o.number ≡ 0 → Describes table o.head
-  opened_good z = go (admitted table) refl
-    where
-      go : (r : Read Table) → admitted table ≡ r → Describes table o.head
-      go (good T rest) e = (if_good T rest e).1
-      go (bad number place) e = absurd (some_number table number place e (sym (if_bad number place e).0 ∙ z))
+pub opened_refused : (table list : List ℕ) {number place : ℕ} → admitted table ≡ bad number place → refused number place ≡ list_answer table list
+unfolding list_answer carry
+opened_refused table list e = rw e
 
 -- 7 to 9, 14 to 17 -----------------------------------------------------------------------------------------------------------------------
 
@@ -63,10 +34,9 @@ module _ (table list : List ℕ) (head : Head) (D : Describes table head) where
   pub rows_answer : (a : Answer) → a ≡ answered length (list_checked (table_of table) list) → a ≡ list_answer table list
   rows_answer a h = h ∙ sym (list_over table D.passes list)
 
-  module _ (number place : ℕ) (told : Told (region_file (table_of table) list) number place) where
-    pub read_refused : (number ≡ 0 → ⊥) → refused number place ≡ list_answer table list
-    unfolding list_checked carry
-    read_refused n = rows_answer (refused number place) (rw (was_bad (region_file (table_of table) list) number place told n) refl)
+  pub read_refused : {number place : ℕ} → region_file (table_of table) list ≡ bad number place → refused number place ≡ list_answer table list
+  unfolding list_checked carry
+  read_refused e = rows_answer _ (rw e)
 
 -- what the answer promises ---------------------------------------------------------------------------------------------------------------
 

@@ -24,6 +24,9 @@ use Rattle.table_files.specs.Meaning.{Limits}
 use Rattle.table_files.proofs.Laws.Admission.{admission_limits}
 use Rattle.table_files.proofs.Laws.Reading.{itself, parts, tested, took_record}
 use Rattle.table_records.specs.declared.head.Head.{Head}
+use Rattle.table_records.specs.Refusal.{number_of}
+use Rattle.table_records.specs.declared.refusal.Fault.{Fault}
+use Rattle.table_records.specs.declared.refusal.Refusal.{Refusal}
 use Rattle.tables.specs.Values.{Describes}
 use Rattle.calls.specs.RegionFile.{row_width, region_file, rows_read, rows_of, ascending, none_final, none_open, list_checked}
 use Rattle.calls.proofs.Laws.Rows.{rows_read_law}
@@ -32,9 +35,13 @@ use Rattle.calls.proofs.Laws.RegionLists.{ascends}
 use Rattle.listed_rows.specs.Listed.{listed_row, listed_rows, Listed}
 use Rattle.listed_rows.proofs.Laws.Listed.{listed_length, listed_at, listed_in, in_listed}
 use Rattle.walked_rows.specs.Open.{Inside, FirstOpen}
-use Rattle.region_lists.specs.RegionList.{Told, passed}
-use Rattle.region_lists.proofs.Laws.ListRecords.{was_good, all_there}
-use Rattle.region_lists.proofs.Laws.ListOrder.{passed_at}
+use Rattle.std.specs.Prelude.{Ok}
+use Rattle.region_lists.specs.RegionList.{Told}
+use Rattle.region_lists.proofs.Laws.ListRecords.{all_there}
+
+-- the answer that a refusal is
+pub refused_at : {f : Fault} {place : ℕ} {e : Refusal} {a : Answer} → e ≡ record { fault = f; place = place } → refused (number_of f) place ≡ a → refused (number_of e.fault) e.place ≡ a
+refused_at k h = rw k h
 
 -- the rows that were read are those that stand in the file
 region_there : (T : Table) (list : List ℕ) (rows : List Row) (rest : List ℕ) → region_file T list ≡ good rows rest
@@ -78,7 +85,7 @@ module _ (T : Table) (n : ℕ) (list : List ℕ) (count first : ℕ) (F : FirstO
 -- the rows, pass after pass -----------------------------------------------------------------------------------------------------------------
 
 module _ (table list : List ℕ) (head : Head) (count : ℕ) (D : Describes table head)
-    (told : Told (region_file (table_of table) list) 0 0) (counted : length (rows_of (table_of table) list) ≡ count) where
+    (told : Told (region_file (table_of table) list) (Ok count)) (counted : length (rows_of (table_of table) list) ≡ count) where
   abbrev T : Table
   T = table_of table
 
@@ -97,7 +104,7 @@ module _ (table list : List ℕ) (head : Head) (count : ℕ) (D : Describes tabl
   ready : Ready
   unfolding rows_of
   ready =
-      let (rs, rest, e) = was_good (region_file T list) 0 0 told refl in
+      let (rs, rest, e) = told in
       let n : length rs ≡ count = sym (ap (λ (r : Read (List Row)). length (rows_read r)) e) ∙ counted in
       let (are, room) = region_there T list rs rest e in
       let rows_are : rs ≡ rows = are ∙ (λ i. listed_rows (sym D.count i) list (n i)) in
@@ -128,52 +135,44 @@ module _ (table list : List ℕ) (head : Head) (count : ℕ) (D : Describes tabl
   answer = answered length (list_checked T list)
 
   -- 14
-  module _ (p14 : ℕ) (e14 : (file : List ℕ) → ascending 1 rows file ≡ passed 14 p14 file) where
-    pub refused_14 : (p14 ≡ 0 → ⊥) → refused 14 p14 ≡ answer
+  pub refused_14 : {number place : ℕ} → ((file : List ℕ) → ascending 1 rows file ≡ bad number place) → refused number place ≡ answer
+  unfolding list_checked carry
+  refused_14 e14 = rw (ready.read, e14 ready.rest)
+
+  module _ (pass_14 : (file : List ℕ) → ascending 1 rows file ≡ good tt file) where
+    pub rows_ascend : Ascends rows
+    rows_ascend = ascends 1 rows [] (pass_14 [])
+
+    -- 15
+    pub refused_15 : {number place : ℕ} → ((file : List ℕ) → none_final T 1 rows file ≡ bad number place) → refused number place ≡ answer
     unfolding list_checked carry
-    refused_14 h = rw (ready.read, e14 ready.rest, passed_at 14 p14 h ready.rest) refl
+    refused_15 e15 = rw (ready.read, pass_14 ready.rest, e15 ready.rest)
 
-    module _ (z14 : p14 ≡ 0) where
-      pass_14 : (file : List ℕ) → ascending 1 rows file ≡ good tt file
-      pass_14 file = e14 file ∙ ap (λ (p : ℕ). passed 14 p file) z14
+    -- 16
+    module _ (pass_15 : (file : List ℕ) → none_final T 1 rows file ≡ good tt file) (initial : Region) (i : (file : List ℕ) → Describes file head → initial ≡ region_of (first_row (table_of file)))
+        (b : Bool) (found : b ≡ has rows (row_of head.clocks.count initial)) where
+      initial_row : row_of head.clocks.count initial ≡ first_row T
+      initial_row =
+          ap (row_of head.clocks.count) (i table D)
+          ∙ row_region head.clocks.count (first_row T) (length-replicate (clocks T) 0 ∙ sym D.count) (length-replicate (clocks T) 0 ∙ sym D.count)
 
-      pub rows_ascend : Ascends rows
-      rows_ascend = ascends 1 rows [] (pass_14 [])
+      starts : (t : Bool) → b ≡ t → has rows (first_row T) ≡ t
+      starts t e = ap (has rows) (sym initial_row) ∙ sym found ∙ e
 
-      -- 15
-      module _ (p15 : ℕ) (e15 : (file : List ℕ) → none_final T 1 rows file ≡ passed 15 p15 file) where
-        pub refused_15 : (p15 ≡ 0 → ⊥) → refused 15 p15 ≡ answer
-        unfolding list_checked carry
-        refused_15 h = rw (ready.read, pass_14 ready.rest, e15 ready.rest, passed_at 15 p15 h ready.rest) refl
+      pub refused_16 : b ≡ false → refused 16 0 ≡ answer
+      unfolding list_checked carry require
+      refused_16 h = rw (ready.read, pass_14 ready.rest, pass_15 ready.rest, starts false h) refl
 
-        -- 16
-        module _ (z15 : p15 ≡ 0) (initial : Region) (i : (file : List ℕ) → Describes file head → initial ≡ region_of (first_row (table_of file)))
-            (b : Bool) (found : b ≡ has rows (row_of head.clocks.count initial)) where
-          pass_15 : (file : List ℕ) → none_final T 1 rows file ≡ good tt file
-          pass_15 file = e15 file ∙ ap (λ (p : ℕ). passed 15 p file) z15
+      -- 17
+      module _ (there : b ≡ true) (first : ℕ) (F : FirstOpen (Inside (next_rows T) head.clocks.count list count) 0 count first) where
+        left : answer ≡ answered length (carry (none_open T rows 1 rows ready.rest) (λ _. done rows))
+        unfolding list_checked carry require
+        left = rw (ready.read, pass_14 ready.rest, pass_15 ready.rest, starts true there) refl
 
-          initial_row : row_of head.clocks.count initial ≡ first_row T
-          initial_row =
-              ap (row_of head.clocks.count) (i table D)
-              ∙ row_region head.clocks.count (first_row T) (length-replicate (clocks T) 0 ∙ sym D.count) (length-replicate (clocks T) 0 ∙ sym D.count)
+        pub refused_17 : first < count → refused 17 (first + 1) ≡ answer
+        unfolding carry
+        refused_17 l = rw (left, open_refused T head.clocks.count list count first F l ready.rest) refl
 
-          starts : (t : Bool) → b ≡ t → has rows (first_row T) ≡ t
-          starts t e = ap (has rows) (sym initial_row) ∙ sym found ∙ e
-
-          pub refused_16 : b ≡ false → refused 16 0 ≡ answer
-          unfolding list_checked carry require
-          refused_16 h = rw (ready.read, pass_14 ready.rest, pass_15 ready.rest, starts false h) refl
-
-          -- 17
-          module _ (there : b ≡ true) (first : ℕ) (F : FirstOpen (Inside (next_rows T) head.clocks.count list count) 0 count first) where
-            left : answer ≡ answered length (carry (none_open T rows 1 rows ready.rest) (λ _. done rows))
-            unfolding list_checked carry require
-            left = rw (ready.read, pass_14 ready.rest, pass_15 ready.rest, starts true there) refl
-
-            pub refused_17 : first < count → refused 17 (first + 1) ≡ answer
-            unfolding carry
-            refused_17 l = rw (left, open_refused T head.clocks.count list count first F l ready.rest) refl
-
-            pub all_pass : count ≤ first → accepted count ≡ answer
-            unfolding carry
-            all_pass l = rw (left, open_passed T head.clocks.count list count first F l ready.rest) (ap accepted (sym (listed_length head.clocks.count list count)))
+        pub all_pass : count ≤ first → accepted count ≡ answer
+        unfolding carry
+        all_pass l = rw (left, open_passed T head.clocks.count list count first F l ready.rest) (ap accepted (sym (listed_length head.clocks.count list count)))

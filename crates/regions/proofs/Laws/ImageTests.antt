@@ -41,9 +41,8 @@ module _ (u : update_code.Update) where
   settled_clock y up down e = rw e
 
 -- the code's update of clock z
-module _ (n : ℕ) (e : edge_code.Edge) (few : n ≤ 4) (four : length e.updates ≡ 4) (z : ℕ) (l : z < n) (b : Bool) (q : b ≡ settledb (update_of (get_or e.updates z no_update))) where
-  pub settled_here : settled_at (edge_of n e) z ≡ b
-  settled_here = ap settledb (get_or_mapped update_of n e.updates z no_update idle (omega arith) l) ∙ sym q
+pub settled_here : (n : ℕ) (e : edge_code.Edge) → n ≤ 4 → length e.updates ≡ 4 → (z : ℕ) → z < n → settledb (update_of (get_or e.updates z no_update)) ≡ settled_at (edge_of n e) z
+settled_here n e few four z l = sym (ap settledb (get_or_mapped update_of n e.updates z no_update idle (omega arith) l))
 
 -- one clock ---------------------------------------------------------------------------------------------------------------------------
 

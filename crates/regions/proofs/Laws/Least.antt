@@ -1,10 +1,14 @@
 -- The least number that passes a test, sought from k on up to before the end. Assumes nothing.
-use Prim.Native.Nat.{ℕ, zero, suc, ◌+◌, ◌-◌, ◌≤◌, ◌<◌}
+use Prim.Native.Nat.{ℕ, zero, suc, max, ◌+◌, ◌-◌, ◌≤◌, ◌<◌}
 use native.Mathlib.Nat.{add-zero}
 use native.Mathlib.Omega.{arith}
-use mathlib.Core.Path.{◌≡◌, ap, ◌∙◌}
+use native.Mathlib.Decide.{dec_le}
+use mathlib.Core.Path.{◌≡◌, sym, ap, ◌∙◌}
 use mathlib.Core.Bool.{Bool, true, false}
 use Rattle.automata.specs.Successors.{least}
+use Rattle.std.specs.Option.{MatchOption, unwrap_or}
+use Rattle.std.specs.declared.option.Option.{Option}
+use Rattle.std.specs.declared.option.Option.TheVariants.{None, Some}
 
 module _ (t : ℕ → Bool) (end : ℕ) where
   pub least_here : (k : ℕ) → k < end → t k ≡ true → least t (end - k) k ≡ k
@@ -31,3 +35,15 @@ module _ (t : ℕ → Bool) (end : ℕ) where
 
   pub least_next : (k : ℕ) → k < end → t k ≡ false → least t (end - k) k ≡ least t (end - (k + 1)) (k + 1)
   least_next k h e = least_leap k (k + 1) (omega arith) (omega arith) (λ j a b. let s : j ≡ k = omega arith in ap t s ∙ e)
+
+-- what `find` gives of the numbers from k on to before the end, or the end
+module _ (t : ℕ → Bool) (k end : ℕ) where
+  pub least_found : (r : Option ℕ)
+      → MatchOption r ((j : ℕ) → k ≤ j → j < end → t j ≡ false) (λ i. (k ≤ i) × (i < end) × (t i ≡ true) × ((j : ℕ) → k ≤ j → j < i → t j ≡ false))
+      → unwrap_or r (max k end) ≡ least t (end - k) k
+  least_found None f = by (dec_le k end)
+    where
+      by : Dec (k ≤ end) → max k end ≡ least t (end - k) k
+      by (yes h) = sym (least_leap t end k end h (omega arith) f ∙ least_none t end end (omega arith) ∙ omega arith)
+      by (no h) = sym (least_none t end k (omega arith) ∙ omega arith)
+  least_found (Some i) (a, b, e, f) = sym (least_leap t end k i a (omega arith) f ∙ least_here t end i b e)

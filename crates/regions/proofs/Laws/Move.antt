@@ -19,7 +19,7 @@ use Rattle.automata.specs.Successors.{Rel, fixed, free, parts, relation, rel, co
 use Rattle.regions.specs.Move.{move_of, rel_of, fits_at, fits_somewhere, permitsb, Stretch}
 use Rattle.regions.specs.Values.{bounds_of, row_of, update_of}
 use Rattle.regions.specs.declared.clock_move.Move.{Move}
-use Rattle.regions.specs.declared.region.Clocks.{Clocks}
+use Rattle.regions.specs.declared.clocks.Clocks.{Clocks}
 use Rattle.regions.specs.declared.region.Region.{Region}
 use Rattle.regions.specs.declared.edge.Action as action_code
 use Rattle.regions.specs.declared.edge.Update as update_code

@@ -13,11 +13,12 @@ use Rattle.automata.specs.Row.{Row, IsRow}
 use Rattle.automata.specs.Edge.{Action, keep, constant, clock, Update, Edge, idle, Bounded}
 use Rattle.automata.specs.Successors.{guardsb, held, edge_rows}
 use Rattle.regions.specs.Move.{move_of}
-use Rattle.regions.specs.Values.{bounds_of, row_of, padded, sought, found_of, update_of, edge_of}
+use Rattle.regions.specs.Values.{bounds_of, row_of, region_of, padded, sought, update_of, edge_of}
 use Rattle.regions.specs.Image.{deterministic, reachesb, moved_interval, moved_rank, edge_move, reaches_at, interval_at, rank_at, moved, dense, ranked, image}
-use Rattle.regions.specs.declared.region.Clocks.{Clocks}
+use Rattle.regions.specs.declared.clocks.Clocks.{Clocks}
 use Rattle.regions.specs.declared.region.Region.{Region}
-use Rattle.regions.specs.declared.region.Sought.{Sought}
+use Rattle.std.specs.declared.option.Option as option_code
+use Rattle.std.specs.declared.option.Option.TheVariants.{None, Some}
 use Rattle.regions.specs.declared.edge.Edge as edge_code
 use Rattle.regions.specs.declared.clock_move.Move.{Move}
 use Rattle.automata.proofs.Laws.Tests.{never}
@@ -92,11 +93,11 @@ module _ (k : Clocks) (v : Region) (e : edge_code.Edge) (few : k.count ≤ 4) (l
     asked_is = q ∙ ap (move_of C r z) (sym (its_update k v e few four z l))
 
     -- a value below 0 decides
-    pub below_zero : m.reference < m.shift → (s : Sought) → s ≡ sought none → s ≡ sought (moved C E r)
+    pub below_zero : m.reference < m.shift → None ≡ sought (moved C E r)
     unfolding moved
-    below_zero h s f =
+    below_zero h =
         let b : reaches_at C E r z ≡ false = ap reachesb (sym asked_is) ∙ lt-leb m.shift m.reference h in
-        f ∙ rw (allb_fails (reaches_at C E r) (length C) z (omega (arith, clocks)) b)
+        rw (allb_fails (reaches_at C E r) (length C) z (omega (arith, clocks)) b)
 
     pub reached_next : allb z (reaches_at C E r) ≡ true → (m.reference < m.shift → ⊥) → allb (z + 1) (reaches_at C E r) ≡ true
     reached_next a h = allb_more (reaches_at C E r) z a (ap reachesb (sym asked_is) ∙ le-leb m.shift m.reference (omega arith))
@@ -109,47 +110,54 @@ module _ (k : Clocks) (v : Region) (e : edge_code.Edge) (few : k.count ≤ 4) (l
 
   -- every clock has moved
   pub moved_is : (z : ℕ) → z ≤ k.count → (z < k.count → ⊥) → (js ks : List ℕ) → js ≡ padded (each z (interval_at C E r)) → ks ≡ padded (each z (rank_at C E r))
-      → allb z (reaches_at C E r) ≡ true → record { found = true; region = record { location = e.target; intervals = js; ranks = ks } } ≡ sought (moved C E r)
+      → allb z (reaches_at C E r) ≡ true → Some (record { location = e.target; intervals = js; ranks = ks }) ≡ sought (moved C E r)
   unfolding moved
   moved_is z a b js ks p q h = let d : length C ≡ z = omega (arith, clocks) in rw (d, h, p, q)
 
-  module _ (s : Sought) (f : s ≡ sought (moved C E r)) where
-    -- the old ranks are few
-    pub ranks_few : IsRow C r → s.found ≡ true → (z : ℕ) → z < k.count → at s.region.ranks z ≤ 4
-    ranks_few R t z l = go (moved C E r) refl
+  -- whether there is one, and which
+  abbrev is_there : option_code.Option Region → Bool
+  is_there None = false
+  is_there (Some v) = true
+
+  abbrev region_in : option_code.Option Region → Region → Region
+  region_in None d = d
+  region_in (Some v) d = v
+
+  -- the old ranks are few
+  pub ranks_few : IsRow C r → (v : Region) → Some v ≡ sought (moved C E r) → (z : ℕ) → z < k.count → at v.ranks z ≤ 4
+  ranks_few R v f z l = go (moved C E r) refl
+    where
+      go : (o : Option Row) → moved C E r ≡ o → at v.ranks z ≤ 4
+      go none h = never (sym (ap is_there (f ∙ ap sought h)))
+      go (some w) h =
+          let g : at v.ranks z ≡ at w.ranks z = ap (λ (x : option_code.Option Region). at (region_in x v).ranks z) (f ∙ ap sought h) ∙ at_padded w.ranks z in
+          let i : at w.ranks z ≡ rank_at C E r z = ap (λ (ks : List ℕ). at ks z) (moved_out C E r w h).ranks ∙ at_each (length C) (rank_at C E r) z (omega (arith, clocks)) in
+          omega (arith, moved_rank_le C E r R z, clocks)
+
+  module _ (R : IsRow C r) (B : Bounded C E) (S : deterministic k.count E ≡ true) (at_source : r.location ≡ E.source) (guarded : guardsb r E.guards ≡ true) where
+    is_image : edge_rows C E r ≡ held (ranked k.count (moved C E r))
+    unfolding image
+    is_image = rw clocks at (image_law C E r R B (rw clocks S) at_source guarded)
+
+    -- no value, no row
+    pub image_missing : None ≡ sought (moved C E r) → edge_rows C E r ≡ []
+    image_missing f = go (moved C E r) refl
       where
-        go : (o : Option Row) → moved C E r ≡ o → at s.region.ranks z ≤ 4
-        go none h = never (sym (ap (λ (x : Sought). x.found) (f ∙ ap sought h)) ∙ t)
+        go : (o : Option Row) → moved C E r ≡ o → edge_rows C E r ≡ []
+        go none h = is_image ∙ ap (λ (o : Option Row). held (ranked k.count o)) h
+        go (some w) h = never (ap is_there (f ∙ ap sought h))
+
+    -- dense ranks make the row
+    pub image_found : (v : Region) → Some v ≡ sought (moved C E r) → (ks : List ℕ) → ks ≡ padded (dense v.ranks k.count)
+        → edge_rows C E r ≡ held (some (row_of k.count (record { location = v.location; intervals = v.intervals; ranks = ks })))
+    image_found v f ks q = go (moved C E r) refl
+      where
+        go : (o : Option Row) → moved C E r ≡ o → edge_rows C E r ≡ held (some (row_of k.count (record { location = v.location; intervals = v.intervals; ranks = ks })))
+        go none h = never (sym (ap is_there (f ∙ ap sought h)))
         go (some w) h =
-            let g : at s.region.ranks z ≡ at w.ranks z = ap (λ (x : Sought). at x.region.ranks z) (f ∙ ap sought h) ∙ at_padded w.ranks z in
-            let i : at w.ranks z ≡ rank_at C E r z = ap (λ (ks : List ℕ). at ks z) (moved_out C E r w h).ranks ∙ at_each (length C) (rank_at C E r) z (omega (arith, clocks)) in
-            omega (arith, moved_rank_le C E r R z, clocks)
-
-    module _ (R : IsRow C r) (B : Bounded C E) (S : deterministic k.count E ≡ true) (at_source : r.location ≡ E.source) (guarded : guardsb r E.guards ≡ true) where
-      is_image : edge_rows C E r ≡ held (ranked k.count (moved C E r))
-      unfolding image
-      is_image = rw clocks at (image_law C E r R B (rw clocks S) at_source guarded)
-
-      -- no value, no row
-      pub image_missing : s.found ≡ false → edge_rows C E r ≡ held (found_of k.count s)
-      image_missing t = go (moved C E r) refl
-        where
-          go : (o : Option Row) → moved C E r ≡ o → edge_rows C E r ≡ held (found_of k.count s)
-          go none h = rw t (is_image ∙ ap (λ (o : Option Row). held (ranked k.count o)) h)
-          go (some w) h = never (sym t ∙ ap (λ (x : Sought). x.found) (f ∙ ap sought h))
-
-      -- dense ranks make the row
-      pub image_found : s.found ≡ true → (ks : List ℕ) → ks ≡ padded (dense s.region.ranks k.count)
-          → edge_rows C E r ≡ held (some (row_of k.count (record { location = s.region.location; intervals = s.region.intervals; ranks = ks })))
-      image_found t ks q = go (moved C E r) refl
-        where
-          go : (o : Option Row) → moved C E r ≡ o
-              → edge_rows C E r ≡ held (some (row_of k.count (record { location = s.region.location; intervals = s.region.intervals; ranks = ks })))
-          go none h = never (sym (ap (λ (x : Sought). x.found) (f ∙ ap sought h)) ∙ t)
-          go (some w) h =
-              let p : s ≡ sought (some w) = f ∙ ap sought h in
-              let i = moved_out C E r w h in
-              let a : length w.intervals ≡ k.count = ap length i.intervals ∙ length_each (length C) (interval_at C E r) ∙ clocks in
-              let b : length w.ranks ≡ k.count = ap length i.ranks ∙ length_each (length C) (rank_at C E r) ∙ clocks in
-              let q' : ks ≡ padded (dense (padded w.ranks) k.count) = rw p at q in
-              rw p (is_image ∙ ap (λ (o : Option Row). held (ranked k.count o)) h ∙ ap (λ (x : Row). x ∷ []) (sym (ranked_row k.count w ks a b q')))
+            let p : v ≡ region_of w = ap (λ (x : option_code.Option Region). region_in x v) (f ∙ ap sought h) in
+            let i = moved_out C E r w h in
+            let a : length w.intervals ≡ k.count = ap length i.intervals ∙ length_each (length C) (interval_at C E r) ∙ clocks in
+            let b : length w.ranks ≡ k.count = ap length i.ranks ∙ length_each (length C) (rank_at C E r) ∙ clocks in
+            let q' : ks ≡ padded (dense (padded w.ranks) k.count) = rw p at q in
+            rw p (is_image ∙ ap (λ (o : Option Row). held (ranked k.count o)) h ∙ ap (λ (x : Row). x ∷ []) (sym (ranked_row k.count w ks a b q')))

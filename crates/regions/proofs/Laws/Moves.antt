@@ -13,7 +13,7 @@ use Rattle.automata.specs.Successors.{least}
 use Rattle.regions.specs.Values.{bounds_of, row_of, update_of, edge_of}
 use Rattle.regions.specs.Move.{move_of, permitsb}
 use Rattle.regions.specs.Placing.{still, some_permitted}
-use Rattle.regions.specs.declared.region.Clocks.{Clocks}
+use Rattle.regions.specs.declared.clocks.Clocks.{Clocks}
 use Rattle.regions.specs.declared.region.Region.{Region}
 use Rattle.regions.specs.declared.edge.Action as action_code
 use Rattle.regions.specs.declared.edge.Update as update_code

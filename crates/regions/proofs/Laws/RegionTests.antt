@@ -10,12 +10,13 @@ use mathlib.Core.List.{List}
 use lib.ListN.{length}
 use lib.Dec.{eqb, leb, ltb}
 use borrow.Author.Tests.{eq-eqb, ne_eqb, lt-ltb, le-ltb, lt-leb, le-leb}
+use Rattle.automata.proofs.Laws.Chains.{someb_same}
 use Rattle.automata.specs.Clocks.{at, allb, someb, one_if}
 use Rattle.automata.specs.Row.{Row}
 use Rattle.automata.specs.Rows.{openb, heldb, clockb, isrowb}
 use Rattle.automata.specs.Rankings.{open_clocks, usedb, newb, rank_room}
 use Rattle.regions.specs.Values.{bounds_of, row_of}
-use Rattle.regions.specs.declared.region.Clocks.{Clocks}
+use Rattle.regions.specs.declared.clocks.Clocks.{Clocks}
 use Rattle.regions.specs.declared.region.Region.{Region}
 use Rattle.regions.proofs.Laws.Values.{at_is, at_take, length_first, someb_found, someb_more, someb_end}
 
@@ -30,30 +31,20 @@ module _ (k : Clocks) (v : Region) where
   held_zero q e = rw (le-ltb 0 q (omega arith))
 
   module _ (few : k.count ≤ 4) (long : length k.bounds ≡ 4) (q : ℕ) where
-    -- a clock has the rank
-    pub held_found : (z : ℕ) → z < k.count → at v.ranks z ≡ q → true ≡ heldb (bounds_of k) row q
+    -- some clock has the rank
+    pub held_some : (q ≡ 0 → ⊥) → someb k.count (λ (z : ℕ). eqb (at v.ranks z) q) ≡ heldb (bounds_of k) row q
     unfolding heldb
-    held_found z h e =
-        rw (length_first k.count k.bounds few long, someb_found (at_is row.ranks q) k.count z h (eq-eqb _ q (at_take k.count v.ranks z h ∙ e)))
-        (or_true (not (ltb 0 q)))
-      where
-        or_true : (a : Bool) → true ≡ a || true
-        or_true true = refl
-        or_true false = refl
-
-    -- no clock has it
-    pub held_none : (z : ℕ) → (q ≡ 0 → ⊥) → z ≤ k.count → k.count ≤ z → someb z (at_is row.ranks q) ≡ false → false ≡ heldb (bounds_of k) row q
-    unfolding heldb
-    held_none z n h l e =
-        rw (length_first k.count k.bounds few long, lt-ltb 0 q (omega arith)) (sym (someb_end (at_is row.ranks q) k.count z h l e))
+    held_some n =
+        rw (length_first k.count k.bounds few long, lt-ltb 0 q (omega arith))
+        (someb_same k.count (λ (z : ℕ). eqb (at v.ranks z) q) (at_is row.ranks q) (λ z h. rw (at_take k.count v.ranks z h)))
 
   -- clocks
   module _ (z : ℕ) (h : z < k.count) where
     -- the rank is one of the interval's
-    abbrev rankedb : Bool
+    abbrev pub rankedb : Bool
     rankedb = cond (openb (at k.bounds z) (at v.intervals z)) (ltb 0 (at v.ranks z)) (eqb (at v.ranks z) 0)
 
-    clock_is : clockb (bounds_of k) row z
+    pub clock_is : clockb (bounds_of k) row z
         ≡ (leb (at v.intervals z) (2 * at k.bounds z + 1) && rankedb && allb (at v.ranks z) (heldb (bounds_of k) row))
     unfolding clockb
     clock_is = rw (at_take k.count k.bounds z h, at_take k.count v.intervals z h, at_take k.count v.ranks z h)

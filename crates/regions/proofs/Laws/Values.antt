@@ -14,8 +14,8 @@ use lib.Dec.{eqb}
 use lib.Seq.{drop-nil, get_or-take, length-take-le, set_at, take_at}
 use Rattle.automata.specs.Clocks.{at, each, allb, someb}
 use Rattle.automata.specs.Row.{Row}
-use Rattle.regions.specs.Values.{bounds_of, row_of, padded, region_of, sought, found_of}
-use Rattle.regions.specs.declared.region.Clocks.{Clocks}
+use Rattle.regions.specs.Values.{Few, bounds_of, row_of, padded, region_of, sought, found_of}
+use Rattle.regions.specs.declared.clocks.Clocks.{Clocks}
 use Rattle.automata.proofs.Laws.Lists.{zeros, length_each}
 
 -- the first n clocks ------------------------------------------------------------------------------------------------------------------
@@ -159,3 +159,7 @@ row_region n r p q =
 pub found_sought : (n : ℕ) (o : Option Row) → ((r : Row) → o ≡ some r → (length r.intervals ≡ n) × (length r.ranks ≡ n)) → found_of n (sought o) ≡ o
 found_sought n none f = refl
 found_sought n (some r) f = ap some (row_region n r (f r refl).0 (f r refl).1)
+
+-- what the type says of clocks
+pub few_of : (k : Clocks) → Few k
+few_of k = record { few = k.few; low = k.low }

@@ -10,11 +10,12 @@ use lib.ListN.{length, take, set}
 use lib.Seq.{take-suc}
 use lib.Dec.{eqb, leb, ltb}
 use borrow.Author.Tests.{lt-ltb, le-ltb, lt-leb, le-leb}
+use Rattle.automata.proofs.Laws.Chains.{someb_same}
 use Rattle.automata.specs.Clocks.{at, each, someb, greatest}
 use Rattle.automata.specs.Row.{Row, IsRow}
 use Rattle.automata.specs.Wait.{evenb, entersb, growsb, leave_interval, leave_rank, left, arrive_interval, arrive_rank, arrived, wait}
 use Rattle.regions.specs.Values.{bounds_of, row_of, padded, region_of, sought, found_of}
-use Rattle.regions.specs.declared.region.Clocks.{Clocks}
+use Rattle.regions.specs.declared.clocks.Clocks.{Clocks}
 use Rattle.regions.specs.declared.region.Region.{Region}
 use Rattle.regions.proofs.Laws.Values.{at_take, length_first, someb_more, someb_found, someb_end, padded_next, found_sought}
 use Rattle.automata.proofs.Laws.Ranks.{rank_le}
@@ -35,12 +36,9 @@ enters_even c j n = go (dec_lt j (2 * c))
     go (no h) = rw (lt-leb j (2 * c) (omega arith), le-ltb j (2 * c) (omega arith))
 
 -- the greatest of one more
-pub greatest_more : (xs : List ℕ) (z : ℕ) → z < length xs → greatest (take (z + 1) xs) ≡ max (greatest (take z xs)) (at xs z)
-greatest_more xs z h = rw (add-one, take-suc xs z 0 h) (go (take z xs) (at xs z))
-  where
-    go : (ys : List ℕ) (y : ℕ) → greatest (ys ++ (y ∷ [])) ≡ max (greatest ys) y
-    go [] y = omega arith
-    go (x ∷ ys) y = let h : greatest (ys ++ (y ∷ [])) ≡ max (greatest ys) y = go ys y in omega arith
+pub greatest_last : (ys : List ℕ) (y : ℕ) → greatest (ys ++ (y ∷ [])) ≡ max (greatest ys) y
+greatest_last [] y = omega arith
+greatest_last (x ∷ ys) y = let h : greatest (ys ++ (y ∷ [])) ≡ max (greatest ys) y = greatest_last ys y in omega arith
 
 -- clock z after waiting, in the definitions' lists ----------------------------------------------------------------------------------
 
@@ -83,19 +81,11 @@ module _ (k : Clocks) (v : Region) (few : k.count ≤ 4) (long : length k.bounds
         let b : at c z ≡ at k.bounds z = at_take k.count k.bounds z h in
         omega (arith, row.in_range z (rw clocks h))
 
-  -- tests of some clock
-  module _ (f : ℕ → ℕ → Bool) (z : ℕ) where
-    test_is : (b : Bool) → z < k.count → f (at k.bounds z) (at v.intervals z) ≡ b → test_of f c r z ≡ b
-    test_is b h e = rw (at_take k.count k.bounds z h, at_take k.count v.intervals z h) e
-
-    pub some_found : z < k.count → f (at k.bounds z) (at v.intervals z) ≡ true → someb (length c) (test_of f c r) ≡ true
-    some_found h e = someb_found (test_of f c r) (length c) z (rw clocks h) (test_is true h e)
-
-    pub some_more : z < k.count → someb z (test_of f c r) ≡ false → f (at k.bounds z) (at v.intervals z) ≡ false → someb (z + 1) (test_of f c r) ≡ false
-    some_more h s e = someb_more (test_of f c r) z s (test_is false h e)
-
-    pub some_end : z ≤ k.count → k.count ≤ z → someb z (test_of f c r) ≡ false → someb (length c) (test_of f c r) ≡ false
-    some_end h l e = rw clocks (someb_end (test_of f c r) k.count z h l e)
+  -- a test of some clock
+  pub some_test : (f : ℕ → ℕ → Bool) → someb k.count (λ (z : ℕ). f (at k.bounds z) (at v.intervals z)) ≡ someb (length c) (test_of f c r)
+  some_test f =
+      rw clocks
+      (someb_same k.count (λ (z : ℕ). f (at k.bounds z) (at v.intervals z)) (test_of f c r) (λ z h. rw (at_take k.count k.bounds z h, at_take k.count v.intervals z h)))
 
   -- one clock filled in
   module _ (z x : ℕ) (ys : List ℕ) (h : z < k.count) where

@@ -22,8 +22,9 @@ use Rattle.table_files.specs.Admission.{table_of}
 use Rattle.tables.specs.Values.{Describes}
 use Rattle.table_records.specs.declared.head.Head.{Head}
 use Rattle.calls.specs.RegionFile.{row_in, row_width, row_record}
-use Rattle.rows.specs.Row.{RowTold, ReadsRow}
-use Rattle.rows.specs.declared.row.RowRead.{RowRead}
+use Rattle.rows.specs.Row.{ReadsRow}
+use Rattle.std.specs.Prelude.{Ok, Err}
+use Rattle.table_records.specs.declared.refusal.Fault.TheVariants.{ListCut, ListRange}
 use Rattle.calls.proofs.Laws.Rows.{row_width_is, row_read}
 use Rattle.calls.proofs.Laws.RecordReads.{record_missing, record_there, record_length}
 
@@ -67,8 +68,8 @@ module _ (table file : List ℕ) (p : ℕ) (head : Head) (D : Describes table he
   part_is : b ≡ row_part T file p
   part_is = e ∙ ap (λ (k : ℕ). record_at file p k RW) (v ∙ ap row_width D.count)
 
-  pub read_missing : (region : Region) → length b ≡ 0 → ReadsRow T file p (record { number = 7; region = region })
-  read_missing region h place = rw (row_missing T file p (sym (ap length part_is) ∙ h) place) (omega arith, refl, refl)
+  pub read_missing : length b ≡ 0 → ReadsRow T file p (Err ListCut)
+  read_missing h = row_missing T file p (sym (ap length part_is) ∙ h)
 
   module _ (h : length b ≡ 0 → ⊥) where
     some_part : length (row_part T file p) ≡ 0 → ⊥
@@ -87,47 +88,33 @@ module _ (table file : List ℕ) (p : ℕ) (head : Head) (D : Describes table he
       tested : (t : Bool) → t ≡ isrowb (bounds_of head.clocks) (row_of head.clocks.count region) → isrowb T.bounds (row_in (clocks T) (row_part T file p)) ≡ t
       tested t s = sym (s ∙ (λ i. isrowb (D.bounds i) (row_is i)))
 
-      pub read_elsewhere : head.locations ≤ region.location → ReadsRow T file p (record { number = 8; region = region })
-      read_elsewhere l place = rw (row_elsewhere T file p some_part place (omega (arith, location_is, D.locations))) (omega arith, refl, refl)
+      pub read_elsewhere : head.locations ≤ region.location → ReadsRow T file p (Err ListRange)
+      read_elsewhere l place = row_elsewhere T file p some_part place (omega (arith, location_is, D.locations))
 
       module _ (l : region.location < head.locations) where
         inside : at (row_part T file p) 2 < T.locations
         inside = omega (arith, location_is, D.locations)
 
-        pub read_ill : false ≡ isrowb (bounds_of head.clocks) (row_of head.clocks.count region) → ReadsRow T file p (record { number = 8; region = region })
-        read_ill s place = rw (row_ill T file p some_part place inside (tested false s)) (omega arith, refl, refl)
+        pub read_ill : false ≡ isrowb (bounds_of head.clocks) (row_of head.clocks.count region) → ReadsRow T file p (Err ListRange)
+        read_ill s place = row_ill T file p some_part place inside (tested false s)
 
-        pub read_good : true ≡ isrowb (bounds_of head.clocks) (row_of head.clocks.count region) → ReadsRow T file p (record { number = 0; region = region })
+        pub read_good : true ≡ isrowb (bounds_of head.clocks) (row_of head.clocks.count region) → ReadsRow T file p (Ok region)
         read_good s place =
-            rw (row_good T file p some_part place inside (tested true s))
-            (refl, q ∙ (λ i. region_of (row_in (D.count i) (part_is i))), refl)
+            (_, q ∙ (λ i. region_of (row_in (D.count i) (part_is i))), row_good T file p some_part place inside (tested true s))
 
 -- what its callers learn ------------------------------------------------------------------------------------------------------------
 
-module _ (T : Table) (file : List ℕ) (p : ℕ) (r : RowRead) (h : ReadsRow T file p r) where
-  module _ (fine : r.number ≡ 0) where
-    -- number 0: the row of the region was read, and it is one of the table's
-    pub reads_good : (place : ℕ) → row_record T place (drop p file) ≡ good (row_of (clocks T) r.region) (drop (p + row_width (clocks T)) file)
-    reads_good place = go (row_record T place (drop p file)) refl (h place)
-      where
-        go : (t : Read Row) → row_record T place (drop p file) ≡ t → RowTold place (drop (p + row_width (clocks T)) file) t r
-            → t ≡ good (row_of (clocks T) r.region) (drop (p + row_width (clocks T)) file)
-        go (good row rest) e (_, q, f) =
-            let R = (row_read T place (drop p file) row rest e).0 in
-            let same_row : row ≡ row_of (clocks T) r.region = sym (ap (row_of (clocks T)) q ∙ row_region (clocks T) row R.is_row.intervals_length R.is_row.ranks_length) in
-            λ i. good (same_row i) (f i)
-        go (bad number place) e (some, n, _) = absurd (omega (arith, n, fine))
+-- the row of the region was read, and it is one of the table's
+module _ (T : Table) (file : List ℕ) (p : ℕ) (region : Region) (h : ReadsRow T file p (Ok region)) where
+  pub reads_good : (place : ℕ) → row_record T place (drop p file) ≡ good (row_of (clocks T) region) (drop (p + row_width (clocks T)) file)
+  reads_good place =
+      let (row, q, e) = h place in
+      let R = (row_read T place (drop p file) row _ e).0 in
+      let same_row : row ≡ row_of (clocks T) region = sym (ap (row_of (clocks T)) q ∙ row_region (clocks T) row R.is_row.intervals_length R.is_row.ranks_length) in
+      e ∙ (λ i. good (same_row i) (drop (p + row_width (clocks T)) file))
 
-    pub reads_row : RowOf T (row_of (clocks T) r.region)
-    reads_row = (row_read T 0 (drop p file) _ _ (reads_good 0)).0
-
-  -- another number: that of the refusal
-  pub reads_bad : (r.number ≡ 0 → ⊥) → (place : ℕ) → row_record T place (drop p file) ≡ bad r.number place
-  reads_bad refused place = go (row_record T place (drop p file)) (h place)
-    where
-      go : (t : Read Row) → RowTold place (drop (p + row_width (clocks T)) file) t r → t ≡ bad r.number place
-      go (good row rest) (n, _, _) = absurd (refused n)
-      go (bad number q) (_, n, e) = λ i. bad (sym n i) (e i)
+  pub reads_row : RowOf T (row_of (clocks T) region)
+  reads_row = (row_read T 0 (drop p file) _ _ (reads_good 0)).0
 
 -- the initial row ------------------------------------------------------------------------------------------------------------------
 

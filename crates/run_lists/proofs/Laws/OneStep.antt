@@ -1,18 +1,20 @@
 -- One step as the code takes it: the loops over guards and updates give the definitions' tests. Assumes nothing.
 use Prim.Native.Nat.{ℕ, zero, suc, ◌+◌, ◌*◌, ◌≤◌, ◌<◌}
 use native.Mathlib.Nat.{mul-le-mul}
-use native.Mathlib.Numerals.{add-one}
 use native.Mathlib.Omega.{arith}
-use mathlib.Core.Bool.{Bool, true, false, cond, ◌&&◌}
+use mathlib.Core.Bool.{Bool, true, false}
 use mathlib.Core.List.{List, [], ◌∷◌}
 use mathlib.Core.Path.{◌≡◌, refl, sym, ap, ◌∙◌}
 use lib.Dec.{eqb}
-use lib.ListN.{length, take, drop, get_or, length-map, drop_of_length-le, get_or-map}
-use lib.Seq.{drop-cons, get_or-take, length-take-le}
+use lib.ListN.{length, take, get_or, length-map, get_or-map}
+use lib.Seq.{get_or-take, length-take-le}
 use borrow.Author.Tests.{eq-eqb, ne_eqb}
 use Rattle.automata.proofs.Laws.Lists.{at_later, length_later}
-use Rattle.automata.proofs.Laws.Tests.{fails, never, allb_law}
-use Rattle.automata.specs.Automaton.{Table, edge, Admitted}
+use Rattle.automata.proofs.Laws.Tests.{says, allb_law, same_test}
+use Rattle.automata.proofs.Laws.Checks.{every_law}
+use Rattle.automata.proofs.Laws.Members.{get_or_in, in_get_or}
+use Rattle.regions.proofs.Laws.Placing.{allb_same}
+use Rattle.automata.specs.Automaton.{edge, Admitted}
 use Rattle.automata.specs.Checks.{every}
 use Rattle.automata.specs.Clocks.{at, allb}
 use Rattle.automata.specs.Comparison.{holds}
@@ -27,12 +29,11 @@ use Rattle.regions.specs.declared.edge.Update as update_code
 use Rattle.table_files.proofs.Laws.Admission.{admission_admitted}
 use Rattle.table_files.proofs.Laws.Reading.{itself}
 use Rattle.table_files.specs.Admission.{table_of}
-use Rattle.table_files.specs.Reading.{Read, good, bad, carry, require}
+use Rattle.table_files.specs.Reading.{good, bad, carry, require}
 use Rattle.tables.specs.Values.{Describes}
 use Rattle.table_records.specs.declared.head.Head.{Head}
 use Rattle.calls.specs.RunFile.{guardedb, allowed_byb, allowedb}
-use Rattle.run_lists.specs.Step.{Names, guard_passes, refusal, step_by, one_more, state_of, point_of}
-use Rattle.run_lists.specs.declared.step.State as state_code
+use Rattle.run_lists.specs.Step.{Names, guard_passes, step_by}
 
 -- two numbers of two bytes have a product of four
 pub product_small : (a b : ℕ) → a < 65536 → b < 65536 → a * b < 4294967296
@@ -64,53 +65,35 @@ module _ (n : ℕ) (e : edge_code.Edge) where
       let k : update_code.Update = record { action = action_code.TheVariants.Keep; comparison = 0 } in
       get_or-map update_of (take n e.updates) z k ∙ ap update_of (get_or-take n e.updates z k h ∙ same_at e.updates z k d l)
 
-  guards_many : e.guard_count ≤ length e.guards → length (edge_of n e).guards ≡ e.guard_count
-  guards_many h = length-map (take e.guard_count e.guards) guard_of ∙ length-take-le e.guard_count e.guards h
-
 -- guards ---------------------------------------------------------------------------------------------------------------------
 
-module _ {A : Type 0} (p : A → Bool) (xs : List A) (i : ℕ) where
-  every_more : (d : A) → i < length xs → every p (drop i xs) ≡ (p (get_or xs i d) && every p (drop (i + 1) xs))
-  every_more d h = rw (add-one, drop-cons xs i d h)
+-- of a list, by number
+every_at : {A : Type 0} (p : A → Bool) (xs : List A) (d : A) → allb (length xs) (λ (i : ℕ). p (get_or xs i d)) ≡ every p xs
+every_at p xs d =
+    same_test (allb (length xs) (λ (i : ℕ). p (get_or xs i d))) (every p xs) (allb_law (length xs) _ (λ i. itself (p (get_or xs i d))))
+    (says _ (every_law p (λ a. itself (p a)) xs) (
+      λ h i l. h _ (get_or_in xs i d l),
+      λ h a m. let (i, l, e) = in_get_or d m in rw e at (h i l),
+    ))
 
-  every_end : length xs ≤ i → every p (drop i xs) ≡ true
-  every_end h = rw (drop_of_length-le xs h)
+module _ (D n delay : ℕ) (values : List ℕ) (e : edge_code.Edge) (few : n ≤ length values) (N : Names n e) (d : guard_code.Guard) where
+  guard_answer : (i : ℕ) → i < e.guard_count
+      → holds (get_or e.guards i d).comparison (at values (get_or e.guards i d).clock + delay) ((get_or e.guards i d).constant * D)
+      ≡ guard_passes D (later delay (take n values)) (get_or (edge_of n e).guards i (guard_of d))
+  guard_answer i h =
+      sym (rw (guard_read n e i d h)
+      (ap (λ (x : ℕ). holds (get_or e.guards i d).comparison x ((get_or e.guards i d).constant * D)) (waited_at n delay values (get_or e.guards i d).clock (N.guards i h d) few)))
 
--- what is left to test from guard i on
-abbrev pub guards_from : ℕ → ℕ → ℕ → List ℕ → edge_code.Edge → ℕ → Bool
-guards_from D n delay values e i = every (guard_passes D (later delay (take n values))) (drop i (edge_of n e).guards)
+  guards_many : e.guard_count ≡ length (edge_of n e).guards
+  guards_many = sym (length-map (take e.guard_count e.guards) guard_of ∙ length-take-le e.guard_count e.guards (omega (arith, N.few, N.guards_length)))
 
-module _ (D n delay : ℕ) (values : List ℕ) (e : edge_code.Edge) (few : n ≤ length values) (N : Names n e) where
-  guard_answer : (i : ℕ) (d : guard_code.Guard) → i < e.guard_count
-      → guard_passes D (later delay (take n values)) (get_or (edge_of n e).guards i (guard_of d))
-      ≡ holds (get_or e.guards i d).comparison (at values (get_or e.guards i d).clock + delay) ((get_or e.guards i d).constant * D)
-  guard_answer i d h =
-      rw (guard_read n e i d h)
-      (ap (λ (x : ℕ). holds (get_or e.guards i d).comparison x ((get_or e.guards i d).constant * D)) (waited_at n delay values (get_or e.guards i d).clock (N.guards i h d) few))
-
-  many : length (edge_of n e).guards ≡ e.guard_count
-  many = guards_many n e (omega (arith, N.few, N.guards_length))
-
-  guards_next : (i : ℕ) (d : guard_code.Guard) (b : Bool) → i < e.guard_count
-      → b ≡ holds (get_or e.guards i d).comparison (at values (get_or e.guards i d).clock + delay) ((get_or e.guards i d).constant * D)
-      → guards_from D n delay values e i ≡ (b && guards_from D n delay values e (i + 1))
-  guards_next i d b h g =
-      every_more (guard_passes D (later delay (take n values))) (edge_of n e).guards i (guard_of d) (omega (arith, many))
-      ∙ ap (λ (x : Bool). x && guards_from D n delay values e (i + 1)) (guard_answer i d h ∙ sym g)
-
-  -- a guard that holds leaves those after it; one that fails decides
-  pub guards_on : (i : ℕ) (d : guard_code.Guard) {b : Bool} → i < e.guard_count
-      → b ≡ holds (get_or e.guards i d).comparison (at values (get_or e.guards i d).clock + delay) ((get_or e.guards i d).constant * D)
-      → b ≡ true → guards_from D n delay values e i ≡ guards_from D n delay values e (i + 1)
-  guards_on i d h g k = guards_next i d true h (sym k ∙ g)
-
-  pub guards_stop : (i : ℕ) (d : guard_code.Guard) {b : Bool} → i < e.guard_count
-      → b ≡ holds (get_or e.guards i d).comparison (at values (get_or e.guards i d).clock + delay) ((get_or e.guards i d).constant * D)
-      → b ≡ false → guards_from D n delay values e i ≡ false
-  guards_stop i d h g k = guards_next i d false h (sym k ∙ g)
-
-  pub guards_end : (i : ℕ) → e.guard_count ≤ i → guards_from D n delay values e i ≡ true
-  guards_end i h = every_end (guard_passes D (later delay (take n values))) (edge_of n e).guards i (omega (arith, many))
+  -- what the code asks of each guard is what the definitions ask
+  pub guards_each : allb e.guard_count (λ (i : ℕ). holds (get_or e.guards i d).comparison (at values (get_or e.guards i d).clock + delay) ((get_or e.guards i d).constant * D))
+      ≡ guardedb D (later delay (take n values)) (edge_of n e).guards
+  guards_each =
+      allb_same e.guard_count _ _ guard_answer
+      ∙ (λ i. allb (guards_many i) (λ (j : ℕ). guard_passes D (later delay (take n values)) (get_or (edge_of n e).guards j (guard_of d))))
+      ∙ every_at (guard_passes D (later delay (take n values))) (edge_of n e).guards (guard_of d)
 
 -- updates --------------------------------------------------------------------------------------------------------------------
 
@@ -127,14 +110,6 @@ module _ (D delay : ℕ) (values : List ℕ) (z x cmp : ℕ) where
   narrowed n h k keep i = rw (at_later delay values z (omega arith), waited_at n delay values z h k)
   narrowed n h k (constant q) i = refl
   narrowed n h k (clock y up down) i = rw (at_later delay values y (omega arith), waited_at n delay values y i k)
-
-module _ (f : ℕ → Bool) (z : ℕ) where
-  all_more : allb z f ≡ true → f z ≡ true → allb (z + 1) f ≡ true
-  unfolding allb
-  all_more h k = rw (add-one, h, k)
-
-  all_stop : (n : ℕ) → z < n → f z ≡ false → allb n f ≡ false
-  all_stop n h k = fails (allb n f) (allb_law n f (λ y. itself (f y))) (λ all. never (sym k ∙ all z h))
 
 -- a clock among fewer is one among more
 pub action_in : (m n : ℕ) → m ≤ n → (a : Action) → ActionIn m a → ActionIn n a
@@ -162,17 +137,9 @@ module _ (D n delay : ℕ) (values news : List ℕ) (e : edge_code.Edge) (four :
   whole : allowedb D (later delay (take n values)) (take n news) (edge_of n e).updates ≡ allb n (allowed_at D n delay values news e)
   whole = ap (λ (k : ℕ). allb k (allowed_at D n delay values news e)) (length_later delay (take n values) ∙ length-take-le n values few)
 
-  pub updates_on : (z : ℕ) (d : update_code.Update) {b : Bool} → z < n → b ≡ answer_at z d → b ≡ true
-      → allb z (allowed_at D n delay values news e) ≡ true → allb (z + 1) (allowed_at D n delay values news e) ≡ true
-  updates_on z d h g k all = all_more (allowed_at D n delay values news e) z all (sym (allowed_of z d h) ∙ sym g ∙ k)
-
-  pub updates_stop : (z : ℕ) (d : update_code.Update) {b : Bool} → z < n → b ≡ answer_at z d → b ≡ false
-      → allowedb D (later delay (take n values)) (take n news) (edge_of n e).updates ≡ false
-  updates_stop z d h g k = whole ∙ all_stop (allowed_at D n delay values news e) z n h (sym (allowed_of z d h) ∙ sym g ∙ k)
-
-  pub updates_end : (z : ℕ) → z ≡ n → allb z (allowed_at D n delay values news e) ≡ true
-      → allowedb D (later delay (take n values)) (take n news) (edge_of n e).updates ≡ true
-  updates_end z q all = whole ∙ rw q at all
+  -- what the code asks of each update is what the definitions ask
+  pub updates_each : (d : update_code.Update) → allb n (λ (z : ℕ). answer_at z d) ≡ allowedb D (later delay (take n values)) (take n news) (edge_of n e).updates
+  updates_each d = allb_same n _ _ (λ z h. allowed_of z d h) ∙ sym whole
 
 -- the edge of an admitted table ----------------------------------------------------------------------------------------------
 
@@ -202,35 +169,29 @@ module _ (file : List ℕ) (h : Head) (d : Describes file h) (number : ℕ) (l :
         guards_length = gs;
         updates_length = us;
         guards = λ i k x.
-            rw (guard_read n e i x k, c) at (B.guards_in i (omega (arith, guards_many n e (omega arith))) (guard_of x)).0;
+            let many = length-map (take e.guard_count e.guards) guard_of ∙ length-take-le e.guard_count e.guards (omega arith) in
+            rw (guard_read n e i x k, c) at (B.guards_in i (omega (arith, many)) (guard_of x)).0;
         updates = λ z k x.
             rw (c, update_read n e z x k (omega (arith, d.few.few))) at (bounded_in (table_of file).bounds z (get_or (edge_of n e).updates z idle).action (B.updates_in z (omega arith)));
       }
 
 -- the tests in order ---------------------------------------------------------------------------------------------------------
 
--- three answers and the first refusal among them make the step
-pub stepped : (e : Edge) (D place : ℕ) (s : State) (m : Move) (leaves guarded allowed : Bool) → leaves ≡ eqb s.location e.source
-    → guarded ≡ guardedb D (later m.delay s.values) e.guards → allowed ≡ allowedb D (later m.delay s.values) m.values e.updates
-    → cond (eqb (refusal leaves guarded allowed) 0) (good (record { location = e.target; values = m.values }) []) (bad (refusal leaves guarded allowed) place) ≡ step_by e D place s m []
-unfolding step_by carry require
-stepped e D place s m leaves guarded allowed p q r = rw (← p, ← q, ← r) (go leaves guarded allowed)
-  where
-    end : Read State
-    end = good (record { location = e.target; values = m.values }) []
+module _ (e : Edge) (D place : ℕ) (s : State) (m : Move) where
+  pub step_leaves_not : (s.location ≡ e.source → ⊥) → step_by e D place s m [] ≡ bad 10 place
+  unfolding step_by carry require
+  step_leaves_not h = rw (ne_eqb s.location e.source h)
 
-    go : (a b c : Bool) → cond (eqb (refusal a b c) 0) end (bad (refusal a b c) place)
-        ≡ carry (require 10 place a []) (λ _ f. carry (require 11 place b f) (λ _ f. carry (require 12 place c f) (λ _ f. good (record { location = e.target; values = m.values }) f)))
-    go true true true = refl
-    go true true false = refl
-    go true false c = refl
-    go false b c = refl
+  module _ (leaves : s.location ≡ e.source) where
+    pub step_guards_fail : guardedb D (later m.delay s.values) e.guards ≡ false → step_by e D place s m [] ≡ bad 11 place
+    unfolding step_by carry require
+    step_guards_fail h = rw (eq-eqb s.location e.source leaves, h)
 
-module _ (T : Table) (D place n : ℕ) (s : state_code.State) (m : Move) where
-  pub stays_refused : (s.number ≡ 0 → ⊥) → state_of n s ≡ one_more T D place (state_of n s) m
-  unfolding carry
-  stays_refused h = rw (ne_eqb s.number 0 h)
+    module _ (guarded : guardedb D (later m.delay s.values) e.guards ≡ true) where
+      pub step_updates_fail : allowedb D (later m.delay s.values) m.values e.updates ≡ false → step_by e D place s m [] ≡ bad 12 place
+      unfolding step_by carry require
+      step_updates_fail h = rw (eq-eqb s.location e.source leaves, guarded, h)
 
-  pub goes_on : (e : Edge) (r : Read State) → s.number ≡ 0 → e ≡ edge T m.number → r ≡ step_by e D place (point_of n s) m [] → r ≡ one_more T D place (state_of n s) m
-  unfolding carry
-  goes_on e r h q k = k ∙ rw (eq-eqb s.number 0 h, q)
+      pub step_taken : allowedb D (later m.delay s.values) m.values e.updates ≡ true → step_by e D place s m [] ≡ good (record { location = e.target; values = m.values }) []
+      unfolding step_by carry require
+      step_taken h = rw (eq-eqb s.location e.source leaves, guarded, h)

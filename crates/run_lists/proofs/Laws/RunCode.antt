@@ -1,42 +1,49 @@
 -- The run check's loop: what is known at each turn, and each way out. Assumes nothing.
 use Prim.Native.Nat.{ℕ, zero, suc, ◌+◌, ◌*◌, ◌-◌, ◌≤◌, ◌<◌}
 use native.Mathlib.Omega.{arith}
-use mathlib.Core.Bool.{Bool, true, false}
+use mathlib.Core.Bool.{Bool, true, false, ◌&&◌}
 use mathlib.Core.List.{List, [], ◌∷◌}
 use mathlib.Core.Logic.{◌↔◌}
 use mathlib.Core.Path.{◌≡◌, refl, sym, ap, ◌∙◌}
 use lib.ListN.{length, take, drop, replicate, drop_of_length-le}
 use lib.Seq.{drop-cons}
-use borrow.Author.Tests.{le-leb, lt-leb, lt-ltb, le-ltb, eq-eqb, ne_eqb}
-use Rattle.automata.proofs.Laws.Tests.{fails}
-use Rattle.automata.specs.Automaton.{Table, clocks, final}
+use borrow.Author.Tests.{le-leb, lt-ltb, le-ltb}
+use lib.Dec.{leb}
+use Rattle.automata.proofs.Laws.Tests.{fails, and_law, leb_law}
+use Rattle.automata.specs.Automaton.{Table, clocks}
 use Rattle.automata.specs.Clocks.{at}
 use Rattle.automata.specs.Run.{State, first, Reached}
 use Rattle.table_files.proofs.Laws.Admission.{admission_admitted, admission_read}
 use Rattle.table_files.proofs.Laws.Reading.{goes, passes, between_law}
-use Rattle.table_files.specs.Admission.{table_of, admitted, admission, record_count}
+use Rattle.table_files.specs.Admission.{table_of, admitted}
 use Rattle.table_files.specs.Answer.{Answer, accepted, refused}
 use Rattle.table_files.specs.Bytes.{RN, ST, two, AreBytes}
 use Rattle.table_files.specs.Meaning.{Passes}
-use Rattle.table_files.specs.Reading.{Read, good, bad, carry, next_record, require, end, between, answered}
+use Rattle.table_files.specs.Reading.{Read, good, bad, carry, next_record, require, end, between}
 use Rattle.table_files.specs.Records.{record_at}
-use Rattle.tables.specs.Values.{Describes, Opens}
+use Rattle.tables.specs.Values.{Describes}
 use Rattle.table_records.specs.declared.head.Head.{Head}
-use Rattle.table_records.specs.declared.head.Opened.{Opened}
-use Rattle.calls.specs.Meaning.{Small, RunListOf}
+use Rattle.table_records.specs.Refusal.{number_of}
+use Rattle.table_records.specs.declared.refusal.Fault.{Fault}
+use Rattle.table_records.specs.declared.refusal.Refusal.{Refusal}
+use Rattle.std.specs.Prelude.{Result, Ok, IfOk}
+use Rattle.calls.specs.Meaning.{RunListOf}
 use Rattle.run_lists.specs.Run.{concluded, steps_from, run_from, counted}
-use Rattle.calls.specs.RunFile.{step_record, RunList, run_checked, run_answer}
+use Rattle.calls.specs.RunFile.{step_record, run_answer}
 use Rattle.run_lists.specs.Step.{move_of, state_of, one_more}
 use Rattle.run_lists.specs.declared.step.State as state_code
 use Rattle.run_lists.proofs.Laws.OnePass.{stops, run_fused}
 use Rattle.calls.proofs.Laws.RecordReads.{record_missing, record_there, record_length}
 use Rattle.calls.proofs.Laws.Runs.{run_law, run_reached}
-use Rattle.calls.proofs.Laws.SmallAnswers.{admission_small}
 
 -- a test that fails
 unmet : (number place : ℕ) (t : Bool) (file : List ℕ) → t ≡ false → require number place t file ≡ bad number place
 unfolding require
 unmet number place t file e = rw e
+
+-- the answer that a refusal is
+pub refused_at : {f : Fault} {place : ℕ} {e : Refusal} {a : Answer} → e ≡ record { fault = f; place = place } → refused (number_of f) place ≡ a → refused (number_of e.fault) e.place ≡ a
+refused_at k h = rw k h
 
 -- a step's record ------------------------------------------------------------------------------------------------------------
 
@@ -66,10 +73,10 @@ module _ (T : Table) (n : ℕ) (sized : n ≡ clocks T) (place at : ℕ) (list b
 -- the loop -------------------------------------------------------------------------------------------------------------------
 
 -- after i steps, with the bytes from place at on left: what is due from here on is what was due at first
-pub record Underway (T : Table) (D steps n L : ℕ) (list : List ℕ) (s : state_code.State) (at i : ℕ) : Type 0 where
+pub record Underway (T : Table) (D steps n L : ℕ) (list : List ℕ) (s : Result state_code.State Refusal) (at i : ℕ) : Type 0 where
   pub few : i ≤ steps
   pub near : at ≤ 6 + 24 * i
-  pub inside : s.location < L
+  pub inside : IfOk s (λ t. t.location < L)
   pub rest : steps_from T D steps 1 steps (good (first T) []) (drop 6 list) ≡ steps_from T D steps (i + 1) (steps - i) (state_of n s) (drop at list)
 
 zeros_taken : (n k : ℕ) → n ≤ k → take {A = ℕ} n (replicate k 0) ≡ replicate n 0
@@ -102,7 +109,7 @@ module _ (table : List ℕ) (h : Head) (d : Describes table h) (D steps : ℕ) (
   abbrev pub due : Answer
   due = counted (steps_from (table_of table) D steps 1 steps (good (first (table_of table)) []) (drop 6 list))
 
-  pub begins : Underway (table_of table) D steps h.clocks.count h.locations list (record { number = 0; place = 0; location = h.initial; values = replicate 4 0 }) 6 0
+  pub begins : Underway (table_of table) D steps h.clocks.count h.locations list (Ok (record { location = h.initial; values = replicate 4 0 })) 6 0
   begins = record {
     few = omega arith;
     near = omega arith;
@@ -113,7 +120,7 @@ module _ (table : List ℕ) (h : Head) (d : Describes table h) (D steps : ℕ) (
         λ j. steps_from (table_of table) D steps 1 (sym z j) (good (record { location = sym d.initial j; values = sym v j }) []) (drop 6 list);
   }
 
-  module _ (s : state_code.State) (at i : ℕ) (U : Underway (table_of table) D steps h.clocks.count h.locations list s at i) where
+  module _ (s : Result state_code.State Refusal) (at i : ℕ) (U : Underway (table_of table) D steps h.clocks.count h.locations list s at i) where
     module _ (l : i < steps) (b : List ℕ) (is : b ≡ record_at list at (8 + 4 * h.clocks.count) ST) where
       pub ends_missing : length b ≡ 0 → refused 7 (i + 1) ≡ due
       ends_missing g = sym (ap counted (U.rest ∙ turn (table_of table) D steps i (state_of h.clocks.count s) (drop at list) l ∙ stops _ _ (step_missing (table_of table) h.clocks.count d.count (i + 1) at list b is g)))
@@ -122,9 +129,9 @@ module _ (table : List ℕ) (h : Head) (d : Describes table h) (D steps : ℕ) (
         pub ends_out : h.edges ≤ two b 2 → refused 8 (i + 1) ≡ due
         ends_out g = sym (ap counted (U.rest ∙ turn (table_of table) D steps i (state_of h.clocks.count s) (drop at list) l ∙ stops _ _ (step_out (table_of table) h.clocks.count d.count (i + 1) at list b is some (omega (arith, d.edges)))))
 
-        pub goes_round : two b 2 < h.edges → (s' : state_code.State)
+        pub goes_round : two b 2 < h.edges → (s' : Result state_code.State Refusal)
             → state_of h.clocks.count s' ≡ one_more (table_of table) D (i + 1) (state_of h.clocks.count s) (move_of h.clocks.count b)
-            → s'.location < h.locations → Underway (table_of table) D steps h.clocks.count h.locations list s' (at + (8 + 4 * h.clocks.count)) (i + 1)
+            → IfOk s' (λ t. t.location < h.locations) → Underway (table_of table) D steps h.clocks.count h.locations list s' (at + (8 + 4 * h.clocks.count)) (i + 1)
         goes_round g s' e k = record {
           few = omega arith;
           near = omega (arith, U.near, d.few.few);
@@ -143,21 +150,6 @@ module _ (table : List ℕ) (h : Head) (d : Describes table h) (D steps : ℕ) (
       pub concludes : length list ≤ at → counted (concluded (table_of table) steps (state_of h.clocks.count s)) ≡ due
       concludes g = sym (ap counted (U.rest ∙ no_turn (table_of table) D steps i (state_of h.clocks.count s) (drop at list) l ∙ goes _ _ tt [] (no_bytes_left 9 (1 + steps) at list g)))
 
--- the end --------------------------------------------------------------------------------------------------------------------
-
-module _ (T : Table) (steps n : ℕ) (s : state_code.State) where
-  pub stands : (s.number ≡ 0 → ⊥) → refused s.number s.place ≡ counted (concluded T steps (state_of n s))
-  unfolding concluded carry
-  stands h = rw (ne_eqb s.number 0 h)
-
-  pub not_final : s.number ≡ 0 → final T s.location ≡ false → refused 13 steps ≡ counted (concluded T steps (state_of n s))
-  unfolding concluded carry require
-  not_final h k = rw (eq-eqb s.number 0 h, k)
-
-  pub is_final : s.number ≡ 0 → final T s.location ≡ true → accepted steps ≡ counted (concluded T steps (state_of n s))
-  unfolding concluded carry require
-  is_final h k = rw (eq-eqb s.number 0 h, k)
-
 -- the header -----------------------------------------------------------------------------------------------------------------
 
 module _ (T : Table) (list b : List ℕ) (is : b ≡ record_at list 0 6 RN) where
@@ -173,45 +165,29 @@ module _ (T : Table) (list b : List ℕ) (is : b ≡ record_at list 0 6 RN) wher
     header_read = rw is (record_there list RN 0 6 7 0 (omega arith) refl (rw is at some)).2
 
     -- the scale's test, then the steps'
-    pub scale_out : (1 ≤ two b 2 → 10000 < two b 2) → refused 8 0 ≡ counted (run_from T list)
+    fields_out : (t u : Bool) → between 1 10000 (two b 2) ≡ t → leb (two b 4) 2048 ≡ u → t && u ≡ false → refused 8 0 ≡ counted (run_from T list)
     unfolding run_from
-    scale_out h =
+    fields_out false u e f h = sym (ap counted (goes _ _ b _ header_read ∙ stops _ _ (unmet 8 0 _ _ e)))
+    fields_out true false e f h = sym (ap counted (goes _ _ b _ header_read ∙ goes _ _ tt _ (passes 8 0 _ _ e) ∙ stops _ _ (unmet 8 0 _ _ f)))
+    fields_out true true e f h = cc
+
+    pub header_out : (1 ≤ two b 2 → two b 2 ≤ 10000 → two b 4 ≤ 2048 → ⊥) → refused 8 0 ≡ counted (run_from T list)
+    header_out h =
+        fields_out _ _ refl refl
+        (fails _ (and_law _ _ (between_law 1 10000 (two b 2)) (leb_law (two b 4) 2048)) (λ ((l, m), n). h l m n))
+
+    pub header_on : 1 ≤ two b 2 → two b 2 ≤ 10000 → two b 4 ≤ 2048 → counted (steps_from T (two b 2) (two b 4) 1 (two b 4) (good (first T) []) (drop 6 list)) ≡ counted (run_from T list)
+    unfolding run_from
+    header_on low high few =
         sym (ap counted (goes _ _ b _ header_read
-        ∙ stops _ _ (unmet 8 0 _ _ (fails (between 1 10000 (two b 2)) (between_law 1 10000 (two b 2)) (λ p. let k : 10000 < two b 2 = h p.0 in omega (arith, p.1))))))
-
-    module _ (low : 1 ≤ two b 2) (high : two b 2 ≤ 10000) where
-      pub steps_out : 2048 < two b 4 → refused 8 0 ≡ counted (run_from T list)
-      unfolding run_from
-      steps_out h =
-          sym (ap counted (goes _ _ b _ header_read
-          ∙ goes _ _ tt _ (passes 8 0 _ _ ((between_law 1 10000 (two b 2)).1 (low, high)))
-          ∙ stops _ _ (unmet 8 0 _ _ (lt-leb (two b 4) 2048 h))))
-
-      pub header_on : two b 4 ≤ 2048 → counted (steps_from T (two b 2) (two b 4) 1 (two b 4) (good (first T) []) (drop 6 list)) ≡ counted (run_from T list)
-      unfolding run_from
-      header_on h =
-          sym (ap counted (goes _ _ b _ header_read
-          ∙ goes _ _ tt _ (passes 8 0 _ _ ((between_law 1 10000 (two b 2)).1 (low, high)))
-          ∙ goes _ _ tt _ (passes 8 0 _ _ (le-leb (two b 4) 2048 h))))
+        ∙ goes _ _ tt _ (passes 8 0 _ _ ((between_law 1 10000 (two b 2)).1 (low, high)))
+        ∙ goes _ _ tt _ (passes 8 0 _ _ (le-leb (two b 4) 2048 few))))
 
 -- the table ------------------------------------------------------------------------------------------------------------------
 
-module _ (table : List ℕ) (o : Opened) (opens : Opens table o) (list : List ℕ) where
-  pub table_refused : (o.number ≡ 0 → ⊥) → refused o.number o.place ≡ run_answer table list
-  unfolding run_answer carry
-  table_refused h = go (admitted table) refl
-    where
-      go : (r : Read Table) → admitted table ≡ r → refused o.number o.place ≡ answered (λ (x : RunList). length x.moves) (carry r (λ T _. run_checked T list))
-      go (good T rest) e = let p : (o.number ≡ 0) × Describes table o.head = rw e at opens in absurd (h p.0)
-      go (bad number place) e = let p : (o.number ≡ number) × (o.place ≡ place) = rw e at opens in λ i. refused (p.0 i) (p.1 i)
-
-  pub table_opened : o.number ≡ 0 → Describes table o.head
-  unfolding admission
-  table_opened h = go (admitted table) refl (admission_small table)
-    where
-      go : (r : Read Table) → admitted table ≡ r → Small (answered record_count r) → Describes table o.head
-      go (good T rest) e s = let p : (o.number ≡ 0) × Describes table o.head = rw e at opens in p.1
-      go (bad number place) e s = let p : (o.number ≡ number) × (o.place ≡ place) = rw e at opens in absurd (omega (arith, p.0, s.0))
+pub table_refused : (table list : List ℕ) {number place : ℕ} → admitted table ≡ bad number place → refused number place ≡ run_answer table list
+unfolding run_answer carry
+table_refused table list e = rw e
 
 -- an admitted table's answer is that of the one pass
 pub opened_answer : (table list : List ℕ) → Passes table → run_answer table list ≡ counted (run_from (table_of table) list)

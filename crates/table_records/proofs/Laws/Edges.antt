@@ -2,49 +2,26 @@
 use Prim.Native.Nat.{ℕ, ◌+◌, ◌*◌, ◌≤◌, ◌<◌}
 use native.Mathlib.Omega.{arith}
 use mathlib.Core.Path.{◌≡◌, refl, sym, ◌∙◌}
-use mathlib.Core.Bool.{Bool, true, false, ◌&&◌, ◌||◌}
+use mathlib.Core.Bool.{true, false, ◌&&◌}
 use mathlib.Core.List.{List}
 use lib.ListN.{length, drop}
-use lib.Dec.{eqb, leb, ltb}
-use borrow.Author.Tests.{leb-true, ne_eqb}
-use Rattle.automata.specs.Comparison.{comparisons}
+use lib.Dec.{leb, ltb}
+use borrow.Author.Tests.{leb-true}
 use Rattle.automata.specs.Clocks.{at}
 use Rattle.automata.specs.Edge.{Edge}
 use Rattle.automata.specs.Checks.{every}
-use Rattle.table_files.specs.Bytes.{ED, up, down}
+use Rattle.table_files.specs.Bytes.{ED}
 use Rattle.table_files.specs.Reading.{Read, good, bad, Reader, carry, ◌>>=◌, ◌>>◌, done, next_bytes, require}
 use Rattle.table_files.specs.Records.{part_at, record_at}
-use Rattle.table_files.specs.TableFile.{guard_in_range, Fields, fields_in_range, edge_record}
-use Rattle.table_records.specs.Scan.{Scanned}
+use Rattle.table_files.specs.TableFile.{guard_in_range, fields_in_range, edge_record}
 use Rattle.table_records.specs.Edge.{ends_in_range, size_of, guards_from, fields_from, edge_from, edge_at, after_edge, Stands}
-use Rattle.table_records.specs.declared.scan.Scan.{Scan}
 use Rattle.table_files.proofs.Laws.Reading.{parts, tested, took, took_record, goes, passes, fails, both}
 use Rattle.table_records.proofs.Laws.Parts.{Found, Taken, record_found, record_lacks, bytes_found, bytes_lack, TookPart, took_part}
-use Rattle.table_records.proofs.Laws.Scan.{refusal, success}
 use Rattle.table_records.proofs.Laws.Skips.{One}
-
--- one update's fields, by their kind -----------------------------------------------------------------------------------------
-
-or_none : (b : Bool) → b ≡ (b || false)
-or_none true = refl
-or_none false = refl
-
-module _ (n : ℕ) (f : Fields) {offset : ℕ} (is : offset ≡ f.offset) {r : Bool} where
-  pub keep_in_range : f.kind ≡ 0 → r ≡ (eqb f.comparison 0 && eqb f.y 0 && eqb offset 0) → r ≡ fields_in_range n f
-  keep_in_range e h = h ∙ rw (is, e) (or_none _ ∙ or_none _)
-
-  pub constant_in_range : f.kind ≡ 1 → r ≡ (ltb f.comparison comparisons && eqb f.y 0 && leb offset 127) → r ≡ fields_in_range n f
-  constant_in_range e h = h ∙ rw (is, e) (or_none _)
-
-  pub clock_in_range : f.kind ≡ 2 → r ≡ (ltb f.comparison comparisons && ltb f.y n && leb (up offset) 127 && leb (down offset) 127) → r ≡ fields_in_range n f
-  clock_in_range e h = h ∙ rw (is, e)
-
-pub no_kind : (n : ℕ) (f : Fields) → (f.kind ≡ 0 → ⊥) → (f.kind ≡ 1 → ⊥) → (f.kind ≡ 2 → ⊥) → false ≡ fields_in_range n f
-no_kind n f h k l = rw (ne_eqb f.kind 0 h, ne_eqb f.kind 1 k, ne_eqb f.kind 2 l)
 
 -- the record -----------------------------------------------------------------------------------------------------------------
 
-module _ (file : List ℕ) (n L place p : ℕ) (b : List ℕ) (is : b ≡ record_at file p 5 ED) where
+module _ (file : List ℕ) (n L place p : ℕ) {b : List ℕ} (is : b ≡ record_at file p 5 ED) where
   abbrev whole : Read Edge
   whole = edge_record n L place (drop p file)
 
@@ -55,12 +32,12 @@ module _ (file : List ℕ) (n L place p : ℕ) (b : List ℕ) (is : b ≡ record
     require 3 place (every (fields_in_range n) (fields_from d (3 * at b 4) n))
     done (edge_from n b d)
 
-  edge_short : length b < 5 → whole ≡ bad 1 place
+  pub edge_short : length b < 5 → whole ≡ bad 1 place
   unfolding edge_record carry
   edge_short h = rw (record_lacks file p 5 1 place ED b is h)
 
   module _ (there : 5 ≤ length b) where
-    pub found : Found file p 5 1 place ED b
+    found : Found file p 5 1 place ED b
     found = record_found file p 5 1 place ED b is (omega arith) there
 
     -- the tests of the fields before the guards are one
@@ -71,68 +48,36 @@ module _ (file : List ℕ) (n L place p : ℕ) (b : List ℕ) (is : b ≡ record
         ∙ both 3 place (ltb (at b 2) L) (ltb (at b 3) L) (drop (p + 5) file) _
         ∙ both 3 place (ltb (at b 2) L && ltb (at b 3) L) (leb (at b 4) 8) (drop (p + 5) file) rest_of
 
-    ends_fail : ends_in_range L b ≡ false → whole ≡ bad 3 place
+    pub ends_fail : ends_in_range L b ≡ false → whole ≡ bad 3 place
     ends_fail h = ends_tested ∙ fails 3 place (ends_in_range L b) (drop (p + 5) file) rest_of h
 
-    module _ (ends : ends_in_range L b ≡ true) (d : List ℕ) (part : d ≡ part_at file (p + 5) (size_of (at b 4) n)) where
+    module _ (ends : ends_in_range L b ≡ true) {size : ℕ} (sized : size ≡ size_of (at b 4) n) {d : List ℕ} (part : d ≡ part_at file (p + 5) size) where
       rest_due : whole ≡ rest_of tt (drop (p + 5) file)
       rest_due = ends_tested ∙ goes _ _ tt _ (passes 3 place (ends_in_range L b) (drop (p + 5) file) ends)
 
-      rest_short : length d < size_of (at b 4) n → whole ≡ bad 1 place
+      pub rest_short : length d < size → whole ≡ bad 1 place
       unfolding carry
-      rest_short h = rest_due ∙ rw (bytes_lack file (p + 5) (size_of (at b 4) n) 1 place d part h)
+      rest_short h = rest_due ∙ rw (bytes_lack file (p + 5) (size_of (at b 4) n) 1 place d (rw sized at part) (rw sized at h))
 
-      module _ (rest_there : size_of (at b 4) n ≤ length d) where
-        pub taken : Taken file (p + 5) (size_of (at b 4) n) 1 place d
-        taken = bytes_found file (p + 5) (size_of (at b 4) n) 1 place d part (λ z. found.fits) rest_there
+      module _ (rest_there : size ≤ length d) where
+        taken : Taken file (p + 5) (size_of (at b 4) n) 1 place d
+        taken = bytes_found file (p + 5) (size_of (at b 4) n) 1 place d (rw sized at part) (λ z. found.fits) (rw sized at rest_there)
 
-        guards_fail : every (guard_in_range n) (guards_from d (at b 4)) ≡ false → whole ≡ bad 3 place
+        pub rest_fits : p + 5 + size ≤ length file
+        rest_fits = rw sized taken.fits
+
+        pub guards_fail : every (guard_in_range n) (guards_from d (at b 4)) ≡ false → whole ≡ bad 3 place
         guards_fail h = rest_due ∙ goes _ _ _ _ taken.reads ∙ fails 3 place (every (guard_in_range n) (guards_from d (at b 4))) _ _ h
 
         module _ (guards : every (guard_in_range n) (guards_from d (at b 4)) ≡ true) where
           updates_due : whole ≡ carry (require 3 place (every (fields_in_range n) (fields_from d (3 * at b 4) n)) (drop (p + 5 + size_of (at b 4) n) file)) (λ _. done (edge_from n b d))
           updates_due = rest_due ∙ goes _ _ _ _ taken.reads ∙ goes _ _ tt _ (passes 3 place (every (guard_in_range n) (guards_from d (at b 4))) _ guards)
 
-          updates_fail : every (fields_in_range n) (fields_from d (3 * at b 4) n) ≡ false → whole ≡ bad 3 place
+          pub updates_fail : every (fields_in_range n) (fields_from d (3 * at b 4) n) ≡ false → whole ≡ bad 3 place
           updates_fail h = updates_due ∙ fails 3 place _ _ _ h
 
-          pub updates_pass : every (fields_in_range n) (fields_from d (3 * at b 4) n) ≡ true → whole ≡ good (edge_from n b d) (drop (p + 5 + size_of (at b 4) n) file)
-          updates_pass h = updates_due ∙ goes _ _ tt _ (passes 3 place _ _ h)
-
--- and what a scan says of it
-module _ (file : List ℕ) (n L place p : ℕ) (b : List ℕ) (is : b ≡ record_at file p 5 ED) (s : Scan) where
-  abbrev Says : Type 0
-  Says = Scanned file (edge_record n L place (drop p file)) s
-
-  abbrev Refused : ℕ → Type 0
-  Refused number = (s.number ≡ number) × (s.place ≡ place)
-
-  pub edge_lacks : length b < 5 → Refused 1 → Says
-  edge_lacks h = refusal file _ 1 place s (edge_short file n L place p b is h) (omega arith)
-
-  module _ (there : 5 ≤ length b) where
-    pub edge_ends : ends_in_range L b ≡ false → Refused 3 → Says
-    edge_ends h = refusal file _ 3 place s (ends_fail file n L place p b is there h) (omega arith)
-
-    module _ (ends : ends_in_range L b ≡ true) (size : ℕ) (sized : size ≡ size_of (at b 4) n) (d : List ℕ) (part : d ≡ part_at file (p + 5) size) where
-      pub rest_lacks : length d < size → Refused 1 → Says
-      rest_lacks h = refusal file _ 1 place s (rest_short file n L place p b is there ends d (rw sized at part) (rw sized at h)) (omega arith)
-
-      module _ (rest_there : size ≤ length d) where
-        pub edge_guards : every (guard_in_range n) (guards_from d (at b 4)) ≡ false → Refused 3 → Says
-        edge_guards h = refusal file _ 3 place s (guards_fail file n L place p b is there ends d (rw sized at part) (rw sized at rest_there) h) (omega arith)
-
-        pub rest_fits : p + 5 + size ≤ length file
-        rest_fits = rw sized (taken file n L place p b is there ends d (rw sized at part) (rw sized at rest_there)).fits
-
-        module _ (guards : every (guard_in_range n) (guards_from d (at b 4)) ≡ true) where
-          pub edge_updates : every (fields_in_range n) (fields_from d (3 * at b 4) n) ≡ false → Refused 3 → Says
-          edge_updates h = refusal file _ 3 place s (updates_fail file n L place p b is there ends d (rw sized at part) (rw sized at rest_there) guards h) (omega arith)
-
-          pub edge_read : every (fields_in_range n) (fields_from d (3 * at b 4) n) ≡ true → (s.number ≡ 0) × (s.at ≡ p + 5 + size) → Says
-          edge_read h =
-              success file _ (edge_from n b d) (p + 5 + size) s
-              (updates_pass file n L place p b is there ends d (rw sized at part) (rw sized at rest_there) guards h ∙ (λ i. good (edge_from n b d) (drop (p + 5 + sym sized i) file))) rest_fits
+          pub edge_read : every (fields_in_range n) (fields_from d (3 * at b 4) n) ≡ true → whole ≡ good (edge_from n b d) (drop (p + 5 + size) file)
+          edge_read h = updates_due ∙ goes _ _ tt _ (passes 3 place _ _ h) ∙ (λ i. good (edge_from n b d) (drop (p + 5 + sym sized i) file))
 
 -- by position ----------------------------------------------------------------------------------------------------------------
 

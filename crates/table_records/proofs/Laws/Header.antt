@@ -19,7 +19,7 @@ use Rattle.table_files.specs.Records.{part_at, record_at}
 use Rattle.table_files.specs.TableFile.{Header, header}
 use Rattle.table_records.specs.Header.{counts_in_range, low, Copied, header_from, HeadOf, Headed}
 use Rattle.table_records.specs.declared.head.Head.{Head}
-use Rattle.table_records.specs.declared.head.Opened.{Opened}
+use Rattle.std.specs.Prelude.{Ok}
 use Rattle.table_files.proofs.Laws.Reading.{Took, itself, parts, tested, took, took_record, between_law, goes, passes, fails, both}
 use Rattle.table_records.proofs.Laws.Parts.{Found, Taken, record_found, record_lacks, bytes_found, bytes_lack, TookPart, took_part}
 
@@ -54,10 +54,10 @@ module _ {bytes : List ℕ} {k : ℕ} {xs : List ℕ} (p : Copying bytes k xs) w
 
 -- the header -----------------------------------------------------------------------------------------------------------------
 
-pub head_of : (b c bs : List ℕ) (E : ℕ) → at b 2 ≡ length c → length c ≤ 4 → Copied c bs → E ≡ two b 5
-    → HeadOf (header_from b c) (record { clocks = record { count = at b 2; bounds = bs }; locations = at b 3; initial = at b 4; edges = E })
-head_of b c bs E e few p q = record {
-  few = record { few = omega arith; low = λ z. omega (arith, p.small z) };
+pub head_of : (b c bs : List ℕ) (E : ℕ) (few : at b 2 ≤ 4) (low : (z : ℕ) → at bs z ≤ 16383) → at b 2 ≡ length c → Copied c bs → E ≡ two b 5
+    → HeadOf (header_from b c) (record { clocks = record { count = at b 2; bounds = bs; few = few; low = low }; locations = at b 3; initial = at b 4; edges = E })
+head_of b c bs E few low e p q = record {
+  few = record { few = few; low = low };
   bounds = rw e p.begins;
   count = e;
   locations = refl;
@@ -66,14 +66,14 @@ head_of b c bs E e few p q = record {
 }
 
 -- the header and its bounds, as they are due
-module _ (file b : List ℕ) (is : b ≡ record_at file 0 7 TA) where
+module _ (file : List ℕ) {b : List ℕ} (is : b ≡ record_at file 0 7 TA) where
   abbrev rest_of : Unit {0} → Reader Header
   rest_of _ = do
     c ← next_bytes 1 0 (at b 2)
     require 2 0 (every low c)
     done (header_from b c)
 
-  header_short : length b < 7 → header file ≡ bad 1 0
+  pub header_short : length b < 7 → header file ≡ bad 1 0
   unfolding header carry
   header_short h = rw (record_lacks file 0 7 1 0 TA b is h)
 
@@ -93,10 +93,10 @@ module _ (file b : List ℕ) (is : b ≡ record_at file 0 7 TA) where
         ∙ both 2 0 (clocks && locations) initial (drop 7 file) _
         ∙ both 2 0 (clocks && locations && initial) (leb (two b 5) 256) (drop 7 file) rest_of
 
-    counts_fail : counts_in_range b ≡ false → header file ≡ bad 2 0
+    pub counts_fail : counts_in_range b ≡ false → header file ≡ bad 2 0
     counts_fail h = counts_tested ∙ fails 2 0 (counts_in_range b) (drop 7 file) rest_of h
 
-    module _ (counts : counts_in_range b ≡ true) (c : List ℕ) (part : c ≡ part_at file 7 (at b 2)) where
+    module _ (counts : counts_in_range b ≡ true) {c : List ℕ} (part : c ≡ part_at file 7 (at b 2)) where
       bounds_due : header file ≡ rest_of tt (drop 7 file)
       bounds_due = counts_tested ∙ goes _ _ tt _ (passes 2 0 (counts_in_range b) (drop 7 file) counts)
 
@@ -104,7 +104,7 @@ module _ (file b : List ℕ) (is : b ≡ record_at file 0 7 TA) where
       unfolding counts_in_range
       clocks_in = ((and_law _ _ (and_law _ _ (and_law _ _ (between_law 1 4 (at b 2)) (itself _)) (itself _)) (itself _)).0 counts).0.0.0
 
-      bounds_short : length c < at b 2 → header file ≡ bad 1 0
+      pub bounds_short : length c < at b 2 → header file ≡ bad 1 0
       unfolding carry
       bounds_short h = bounds_due ∙ rw (bytes_lack file 7 (at b 2) 1 0 c part h)
 
@@ -112,39 +112,19 @@ module _ (file b : List ℕ) (is : b ≡ record_at file 0 7 TA) where
         taken : Taken file 7 (at b 2) 1 0 c
         taken = bytes_found file 7 (at b 2) 1 0 c part (λ z. found.fits) bounds_there
 
-        pub header_due : (7 ≤ length b) × ((at b 2 ≡ length c) × (length c ≤ 4))
-        header_due = let t = taken.sized in let l = clocks_in in (there, (sym t, omega arith))
+        pub header_due : (at b 2 ≡ length c) × (length c ≤ 4)
+        header_due = let t = taken.sized in let l = clocks_in in (sym t, omega arith)
 
-        bounds_fail : every low c ≡ false → header file ≡ bad 2 0
+        pub bounds_fail : every low c ≡ false → header file ≡ bad 2 0
         bounds_fail h = bounds_due ∙ goes _ _ _ _ taken.reads ∙ fails 2 0 (every low c) _ _ h
 
         bounds_pass : every low c ≡ true → header file ≡ good (header_from b c) (drop (7 + at b 2) file)
         bounds_pass h = bounds_due ∙ goes _ _ _ _ taken.reads ∙ goes _ _ tt _ (passes 2 0 (every low c) _ h)
 
-module _ (file b : List ℕ) (is : b ≡ record_at file 0 7 TA) (o : Opened) where
-  refused_as : (number : ℕ) → header file ≡ bad number 0 → 0 < number → (o.number ≡ number) × (o.place ≡ 0) → Headed file (header file) o
-  refused_as number e p h = rw e (h.0, h.1, p)
-
-  pub header_lacks : length b < 7 → (o.number ≡ 1) × (o.place ≡ 0) → Headed file (header file) o
-  header_lacks h = refused_as 1 (header_short file b is h) (omega arith)
-
-  module _ (there : 7 ≤ length b) where
-    pub header_counts : counts_in_range b ≡ false → (o.number ≡ 2) × (o.place ≡ 0) → Headed file (header file) o
-    header_counts h = refused_as 2 (counts_fail file b is there h) (omega arith)
-
-    module _ (counts : counts_in_range b ≡ true) (c : List ℕ) (part : c ≡ part_at file 7 (at b 2)) where
-      pub bounds_lack : length c < at b 2 → (o.number ≡ 1) × (o.place ≡ 0) → Headed file (header file) o
-      bounds_lack h = refused_as 1 (bounds_short file b is there counts c part h) (omega arith)
-
-      module _ (bounds_there : at b 2 ≤ length c) where
-        pub bounds_high : every low c ≡ false → (o.number ≡ 2) × (o.place ≡ 0) → Headed file (header file) o
-        bounds_high h = refused_as 2 (bounds_fail file b is there counts c part bounds_there h) (omega arith)
-
-        pub header_read : every low c ≡ true → {k : Head} → o.number ≡ 0 → o.head ≡ k → HeadOf (header_from b c) k → Headed file (header file) o
-        header_read h {k} z e p =
-            let t = taken file b is there counts c part bounds_there in
-            let n : at b 2 ≡ k.clocks.count = sym t.sized ∙ sym p.count in
-            rw (bounds_pass file b is there counts c part bounds_there h, e) (z, p, (λ i. drop (7 + n i) file), omega (arith, t.fits))
+        pub header_read : every low c ≡ true → {k : Head} → HeadOf (header_from b c) k → Headed file (header file) (Ok k)
+        header_read h {k} p =
+            let n : at b 2 ≡ k.clocks.count = sym taken.sized ∙ sym p.count in
+            ((header_from b c, p, bounds_pass h ∙ (λ i. good (header_from b c) (drop (7 + n i) file))), omega (arith, taken.fits))
 
 -- by position
 pub header_left : (file : List ℕ) (h : Header) (rest : List ℕ) → header file ≡ good h rest → rest ≡ drop (7 + length h.bounds) file

@@ -9,37 +9,29 @@ use lib.Dec.{eqb}
 use borrow.Author.Tests.{le-leb, lt-leb}
 use Rattle.automata.specs.Clocks.{at}
 use Rattle.table_files.specs.Bytes.{LO}
-use Rattle.table_files.specs.Reading.{good, carry, require}
+use Rattle.table_files.specs.Reading.{good, bad, carry, require}
 use Rattle.table_files.specs.Records.{part_at, record_at}
 use Rattle.table_files.specs.TableFile.{location}
-use Rattle.table_records.specs.Scan.{Scanned}
-use Rattle.table_records.specs.declared.scan.Scan.{Scan}
 use Rattle.table_files.proofs.Laws.Reading.{parts, tested, took_record}
 use Rattle.table_records.proofs.Laws.Skips.{One}
 use Rattle.table_records.proofs.Laws.Parts.{record_found, record_lacks, TookPart, took_part}
-use Rattle.table_records.proofs.Laws.Scan.{refusal, success}
 
 -- what is kept of the record at p
 unfoldable pub final_at : List ℕ → ℕ → Bool
 final_at file p = eqb (at (part_at file p 3) 2 % 2) 1
 
-module _ (file : List ℕ) (p place : ℕ) (b : List ℕ) (is : b ≡ record_at file p 3 LO) (s : Scan) where
-  pub location_lacks : length b < 3 → (s.number ≡ 1) × (s.place ≡ place) → Scanned file (location place (drop p file)) s
+module _ (file : List ℕ) (p place : ℕ) {b : List ℕ} (is : b ≡ record_at file p 3 LO) where
+  pub location_short : length b < 3 → location place (drop p file) ≡ bad 1 place
   unfolding location carry
-  location_lacks h = refusal file (location place (drop p file)) 1 place s (rw (record_lacks file p 3 1 place LO b is h)) (omega arith)
+  location_short h = rw (record_lacks file p 3 1 place LO b is h)
 
-  module _ (there : 3 ≤ length b) where
-    pub location_flags : 3 < at b 2 → (s.number ≡ 3) × (s.place ≡ place) → Scanned file (location place (drop p file)) s
-    unfolding location carry require
-    location_flags h =
-        let f = record_found file p 3 1 place LO b is (omega arith) there in
-        refusal file (location place (drop p file)) 3 place s (rw (f.reads, lt-leb (at b 2) 3 h)) (omega arith)
+  pub location_fails : 3 ≤ length b → 3 < at b 2 → location place (drop p file) ≡ bad 3 place
+  unfolding location carry require
+  location_fails there h = rw ((record_found file p 3 1 place LO b is (omega arith) there).reads, lt-leb (at b 2) 3 h)
 
-    pub location_read : at b 2 ≤ 3 → (s.number ≡ 0) × (s.at ≡ p + 3) → Scanned file (location place (drop p file)) s
-    unfolding location carry require
-    location_read h =
-        let f = record_found file p 3 1 place LO b is (omega arith) there in
-        success file (location place (drop p file)) (eqb (at b 2 % 2) 1) (p + 3) s (rw (f.reads, le-leb (at b 2) 3 h)) f.fits
+  pub location_read : 3 ≤ length b → at b 2 ≤ 3 → location place (drop p file) ≡ good (eqb (at b 2 % 2) 1) (drop (p + 3) file)
+  unfolding location carry require
+  location_read there h = rw ((record_found file p 3 1 place LO b is (omega arith) there).reads, le-leb (at b 2) 3 h)
 
 -- by position
 pub location_one : (file : List ℕ) (place p : ℕ) (f : Bool) (rest : List ℕ) → location place (drop p file) ≡ good f rest

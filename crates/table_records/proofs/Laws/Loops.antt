@@ -1,80 +1,26 @@
 -- Loops that test one thing after the other, and loops that fill an array. Assumes nothing.
-use Prim.Native.Nat.{ℕ, zero, suc, ◌+◌, ◌-◌, ◌≤◌, ◌<◌}
-use native.Mathlib.Nat.{sub-zero}
+use Prim.Native.Nat.{ℕ, zero, suc, ◌+◌, ◌<◌}
 use native.Mathlib.Numerals.{add-one}
 use native.Mathlib.Omega.{arith}
 use mathlib.Core.Path.{◌≡◌, refl, sym, ap, ◌∙◌}
-use mathlib.Core.Bool.{Bool, true, false, ◌&&◌}
-use mathlib.Core.List.Memᴰ
+use mathlib.Core.Bool.{Bool}
 use mathlib.Core.List.{List, [], ◌∷◌, ◌++◌, map}
-use lib.ListN.{length, take, set, get_or, length-set}
-use lib.Seq.{length-take-le, get_or-take, take-suc-set}
+use lib.ListN.{length, take, set, length-set}
+use lib.Seq.{take-suc-set}
 use Rattle.automata.specs.Clocks.{allb}
-use Rattle.automata.specs.Closed.{Mem}
 use Rattle.automata.specs.Rows.{from}
 use Rattle.automata.specs.Checks.{every}
 use Rattle.automata.proofs.Laws.Tests.{says, allb_law, same_test}
 use Rattle.automata.proofs.Laws.Checks.{every_law}
-use Rattle.automata.proofs.Laws.Members.{get_or_in, in_get_or, from_in, from_out}
+use Rattle.automata.proofs.Laws.Members.{from_in, from_out}
 use Rattle.table_files.proofs.Laws.Reading.{itself}
 
 -- tests ----------------------------------------------------------------------------------------------------------------------
 
--- the tests before k have passed: those that are left decide
-pub record Passed (t : ℕ → Bool) (n k : ℕ) : Type 0 where
-  pub rest : every t (from 0 n) ≡ every t (from k (n - k))
-
-pub none_tested : {t : ℕ → Bool} {n : ℕ} → Passed t n 0
-none_tested {t} {n} = record { rest = rw sub-zero }
-
-module _ {t : ℕ → Bool} {n k : ℕ} (p : Passed t n k) where
-  pub all_tested : n ≤ k → every t (from 0 n) ≡ true
-  all_tested h = p.rest ∙ (let e : n - k ≡ 0 = omega arith in rw e)
-
-  module _ (more : k < n) where
-    some_left : n - k ≡ suc (n - (k + 1))
-    some_left = omega arith
-
-    pub one_passes : t k ≡ true → Passed t n (k + 1)
-    one_passes e = record { rest = p.rest ∙ rw (some_left, e) }
-
-    pub one_fails : t k ≡ false → every t (from 0 n) ≡ false
-    one_fails e = p.rest ∙ rw (some_left, e)
-
--- two tests that say the same
-
--- two tests that agree below n
-pub every_same : (t u : ℕ → Bool) (n : ℕ) → ((i : ℕ) → i < n → t i ≡ u i) → every t (from 0 n) ≡ every u (from 0 n)
-every_same t u n h = go (from 0 n) (λ i m. let l = from_out 0 n i m in h i (omega arith))
-  where
-    go : (xs : List ℕ) → ((i : ℕ) → Mem i xs → t i ≡ u i) → every t xs ≡ every u xs
-    go [] g = refl
-    go (x ∷ xs) g = λ i. g x (Memᴰ.head refl) i && go xs (λ y m. g y (Memᴰ.tail m)) i
-
-module _ {A : Type 0} (p : A → Bool) where
-  -- of a list, by number
-  pub every_at : (xs : List A) (d : A) → every p xs ≡ every (λ (i : ℕ). p (get_or xs i d)) (from 0 (length xs))
-  every_at xs d =
-      same_test (every p xs) (every _ (from 0 (length xs))) (every_law p (λ a. itself (p a)) xs)
-      (says _ (every_law (λ (i : ℕ). p (get_or xs i d)) (λ i. itself (p (get_or xs i d))) (from 0 (length xs))) (to, back))
-    where
-      to : ((i : ℕ) → Mem i (from 0 (length xs)) → p (get_or xs i d) ≡ true) → (a : A) → Mem a xs → p a ≡ true
-      to h a m = let (i, l, e) = in_get_or d m in rw e at (h i (from_in 0 (length xs) i (omega arith) (omega arith)))
-
-      back : ((a : A) → Mem a xs → p a ≡ true) → (i : ℕ) → Mem i (from 0 (length xs)) → p (get_or xs i d) ≡ true
-      back h i m = let l = from_out 0 (length xs) i m in h _ (get_or_in xs i d (omega arith))
-
-  -- of the first n of a list
-  pub every_taken : (xs : List A) (n : ℕ) (d : A) → n ≤ length xs → every p (take n xs) ≡ every (λ (i : ℕ). p (get_or xs i d)) (from 0 n)
-  every_taken xs n d h =
-      every_at (take n xs) d
-      ∙ ap (λ (k : ℕ). every (λ (i : ℕ). p (get_or (take n xs) i d)) (from 0 k)) (length-take-le n xs h)
-      ∙ every_same (λ (i : ℕ). p (get_or (take n xs) i d)) (λ (i : ℕ). p (get_or xs i d)) n (λ i l. ap p (get_or-take n xs i d l))
-
-  -- of what is made of a list
-  pub every_map : {B : Type 0} (f : B → A) (xs : List B) → every p (map f xs) ≡ every (λ (x : B). p (f x)) xs
-  every_map f [] = refl
-  every_map f (x ∷ xs) = rw (every_map f xs)
+-- of what is made of a list
+pub every_map : {A B : Type 0} (p : A → Bool) (f : B → A) (xs : List B) → every p (map f xs) ≡ every (λ (x : B). p (f x)) xs
+every_map p f [] = refl
+every_map p f (x ∷ xs) = rw (every_map p f xs)
 
 -- clock by clock
 pub allb_every : (n : ℕ) (t : ℕ → Bool) → allb n t ≡ every t (from 0 n)
@@ -84,6 +30,10 @@ allb_every n t =
       λ h z l. h z (from_in 0 n z (omega arith) (omega arith)),
       λ h z m. let l = from_out 0 n z m in h z (omega arith),
     ))
+
+-- the tests of what is made of each number below n
+pub mapped_allb : {A : Type 0} (p : A → Bool) (f : ℕ → A) (n : ℕ) → allb n (λ (z : ℕ). p (f z)) ≡ every p (map f (from 0 n))
+mapped_allb p f n = allb_every n (λ (z : ℕ). p (f z)) ∙ sym (every_map p f (from 0 n))
 
 -- arrays ---------------------------------------------------------------------------------------------------------------------
 

@@ -3,16 +3,28 @@ use Prim.Native.Nat.{ℕ, ◌+◌, ◌-◌, ◌≤◌, ◌<◌}
 use native.Mathlib.Decide.{ℕ_discrete}
 use native.Mathlib.Omega.{arith}
 use mathlib.Core.Path.{◌≡◌, refl, sym, ap, ◌∙◌}
-use mathlib.Core.Bool.{Bool, true, false, cond}
-use mathlib.Core.List.{List, [], ◌++◌}
+use mathlib.Core.Bool.{Bool, true, false, cond, ◌&&◌}
+use mathlib.Core.List.{List, [], ◌∷◌, ◌++◌}
 use lib.ListN.{length, take, drop, length-append, length-drop}
 use lib.Seq.{length-take-le, take_at, drop_at, drop-drop}
-use lib.Dec.{leb}
+use lib.Dec.{eqb, leb}
 use borrow.Author.Tests.{leb-true, leb-false, le-leb, lt-leb}
+use Rattle.std.specs.Cmp.Lexicographic.{pointwise}
+use Rattle.std.specs.List.{starts_with}
 use Rattle.automata.specs.Checks.{same}
 use Rattle.table_files.specs.Reading.{good, bad, carry, next_bytes, require, next_record}
 use Rattle.table_files.specs.Records.{part_at, record_at}
 use Rattle.table_files.proofs.Laws.Reading.{Took, goes, passes}
+
+-- what `starts_with` says of a mark of two bytes
+same_pointwise : (xs ys : List ℕ) → same xs ys ≡ pointwise eqb xs ys
+same_pointwise [] [] = refl
+same_pointwise [] (y ∷ ys) = refl
+same_pointwise (x ∷ xs) [] = refl
+same_pointwise (x ∷ xs) (y ∷ ys) = ap (λ (t : Bool). eqb x y && t) (same_pointwise xs ys)
+
+pub begins : (mark b : List ℕ) (t : Bool) → length mark ≡ 2 → t ≡ starts_with eqb b mark → t ≡ same mark (take 2 b)
+begins mark b t e h = h ∙ rw e (sym (same_pointwise mark (take 2 b)))
 
 module _ (file : List ℕ) (p n : ℕ) where
   -- n bytes stand from p on
@@ -98,6 +110,10 @@ module _ (file : List ℕ) (p n : ℕ) where
                 by : (t : Bool) → leb (p + n) (length file) ≡ t → next_record number place mark n (drop p file) ≡ bad number place
                 by true f = rw (bytes_there (leb-true (p + n) (length file) f), e)
                 by false f = rw (bytes_missing (let z : length (part_at file p n) ≡ 0 = ap length (part_none (leb-false (p + n) (length file) f)) in let some = h in omega arith))
+
+-- a record of which enough bytes were found is in the file
+pub record_fits : (file : List ℕ) (p n : ℕ) (mark : List ℕ) {b : List ℕ} → b ≡ record_at file p n mark → 0 < n → n ≤ length b → p + n ≤ length file
+record_fits file p n mark {b} is some h = (record_found file p n 0 0 mark b is some h).fits
 
 -- what was taken from position p on
 pub record TookPart (file : List ℕ) (p n : ℕ) (b rest : List ℕ) : Type 0 where

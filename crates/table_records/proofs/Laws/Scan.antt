@@ -1,50 +1,40 @@
 -- How scans go on: one reading after another, and records in a row. Assumes nothing.
 use Prim.Native.Nat.{ℕ, suc, ◌+◌, ◌-◌, ◌≤◌, ◌<◌}
 use native.Mathlib.Omega.{arith}
-use mathlib.Core.Path.{◌≡◌, refl, sym}
+use mathlib.Core.Path.{◌≡◌, refl}
 use mathlib.Core.List.{List}
 use lib.ListN.{length, drop}
-use Rattle.table_files.specs.Reading.{Read, good, bad, Reader, carry, done, records}
+use Rattle.std.specs.Prelude.{Result, Ok, Err}
+use Rattle.table_files.specs.Reading.{Read, bad, Reader, carry, done, records}
+use Rattle.table_records.specs.Refusal.{number_of}
 use Rattle.table_records.specs.Scan.{Scanned}
-use Rattle.table_records.specs.declared.scan.Scan.{Scan}
+use Rattle.table_records.specs.declared.refusal.Fault.{Fault}
+use Rattle.table_records.specs.declared.refusal.Refusal.{Refusal}
 
-module _ {A : Type 0} (file : List ℕ) where
-  -- what has been read, where nothing was refused
-  pub has_read : (r : Read A) (s : Scan) → Scanned file r s → s.number ≡ 0 → (a : A) × (r ≡ good a (drop s.at file)) × (s.at ≤ length file)
-  has_read (good a rest) s h e = (a, (let k : rest ≡ drop s.at file = h.1 in λ i. good a (k i)), h.2)
-  has_read (bad number place) s h e = absurd (let k = h.0 in let l = h.2 in omega arith)
+-- what a scan is
+abbrev pub Scan : Type 0
+Scan = Result ℕ Refusal
 
-  -- what was refused
-  pub was_refused : (r : Read A) (s : Scan) → Scanned file r s → (s.number ≡ 0 → ⊥) → (r ≡ bad s.number s.place) × (0 < s.number)
-  was_refused (good a rest) s h n = absurd (n h.0)
-  was_refused (bad number place) s h n = (let k = h.0 in let l = h.1 in λ i. bad (sym k i) (sym l i), let k = h.0 in let l = h.2 in omega arith)
+-- a refusal
+pub refusal : {A : Type 0} {r : Read A} {f : Fault} {place : ℕ} {e : Refusal} → e ≡ record { fault = f; place = place } → r ≡ bad (number_of f) place → r ≡ bad (number_of e.fault) e.place
+refusal k h = rw k h
 
-module _ {A B : Type 0} (file : List ℕ) (r : Read A) (next : A → Reader B) (s : Scan) (h : Scanned file r s) where
+module _ {A B : Type 0} (file : List ℕ) (r : Read A) (next : A → Reader B) where
   -- the first refusal stands
-  pub stops : (s.number ≡ 0 → ⊥) → Scanned file (carry r next) s
+  pub stops : {number place : ℕ} → r ≡ bad number place → carry r next ≡ bad number place
   unfolding carry
-  stops n = let (e, p) = was_refused file r s h n in rw e (refl, refl, p)
+  stops h = rw h
 
   -- else the next reading decides
-  pub goes_on : s.number ≡ 0 → (t : Scan) → ((a : A) → r ≡ good a (drop s.at file) → Scanned file (next a (drop s.at file)) t) → Scanned file (carry r next) t
+  pub goes_on : (p : ℕ) → Scanned file r (Ok p) → (t : Scan) → ((a : A) → Scanned file (next a (drop p file)) t) → Scanned file (carry r next) t
   unfolding carry
-  goes_on e t k = let (a, g, _) = has_read file r s h e in rw g (k a g)
+  goes_on p ((a, g), _) t k = rw g (k a)
 
 -- what is made of what was read changes nothing
 pub made : {A B : Type 0} (file : List ℕ) (r : Read A) (f : A → B) (s : Scan) → Scanned file r s → Scanned file (carry r (λ a. done (f a))) s
 unfolding carry
-made file (good a rest) f s h = h
-made file (bad number place) f s h = h
-
--- a refusal
-pub refusal : {A : Type 0} (file : List ℕ) (r : Read A) (number place : ℕ) (s : Scan)
-    → r ≡ bad number place → 0 < number → (s.number ≡ number) × (s.place ≡ place) → Scanned file r s
-refusal file r number place s e p h = rw e (h.0, h.1, p)
-
--- a success
-pub success : {A : Type 0} (file : List ℕ) (r : Read A) (a : A) (p : ℕ) (s : Scan)
-    → r ≡ good a (drop p file) → p ≤ length file → (s.number ≡ 0) × (s.at ≡ p) → Scanned file r s
-success file r a p s e l h = rw e (h.0, (λ i. drop (sym h.1 i) file), rw h.1 l)
+made file r f (Ok p) ((a, g), l) = rw g ((f a, refl), l)
+made file r f (Err e) h = rw h refl
 
 -- records in a row ----------------------------------------------------------------------------------------------------------
 
@@ -58,27 +48,27 @@ module _ {A : Type 0} (read : ℕ → Reader A) (file : List ℕ) (stop p place 
   pub all_left : (n : ℕ) → stop ≡ place + n → p ≤ length file → Left read file (records read place n (drop p file)) stop p place
   all_left n e l = let d : stop - place ≡ n = omega arith in record { in_file = l; onward = λ s h. rw d at h }
 
-  module _ {B : Type 0} (whole : Read B) (left : Left read file whole stop p place) where
+  module _ {B : Type 0} {whole : Read B} (left : Left read file whole stop p place) where
     -- after the last
-    pub none_left : stop ≤ place → (s : Scan) → (s.number ≡ 0) × (s.at ≡ p) → Scanned file whole s
+    pub none_left : stop ≤ place → Scanned file whole (Ok p)
     unfolding records
-    none_left e s h =
+    none_left e =
         let z : stop - place ≡ 0 = omega arith in
-        left.onward s (rw z (success file (records read place 0 (drop p file)) _ p s refl left.in_file h))
+        left.onward (Ok p) (rw z ((_, refl), left.in_file))
 
-    module _ (s : Scan) (one : Scanned file (read place (drop p file)) s) (more : place < stop) where
+    module _ (more : place < stop) where
       some_left : stop - place ≡ suc (stop - (place + 1))
       some_left = omega arith
 
       -- one is refused
-      pub one_refused : (s.number ≡ 0 → ⊥) → Scanned file whole s
+      pub one_refused : (e : Refusal) → Scanned file (read place (drop p file)) (Err e) → Scanned file whole (Err e)
       unfolding records
-      one_refused n = left.onward s (rw some_left (stops file (read place (drop p file)) _ s one n))
+      one_refused e one = left.onward (Err e) (rw some_left (stops file (read place (drop p file)) _ one))
 
       -- one is read
-      pub one_read : s.number ≡ 0 → Left read file whole stop s.at (place + 1)
+      pub one_read : (q : ℕ) → Scanned file (read place (drop p file)) (Ok q) → Left read file whole stop q (place + 1)
       unfolding records
-      one_read e = record {
-        in_file = (has_read file (read place (drop p file)) s one e).2;
-        onward = λ t k. left.onward t (rw some_left (goes_on file (read place (drop p file)) _ s one e t (λ a g. made file _ _ t k)));
+      one_read q one = record {
+        in_file = one.1;
+        onward = λ t k. left.onward t (rw some_left (goes_on file (read place (drop p file)) _ q one t (λ a. made file _ _ t k)));
       }

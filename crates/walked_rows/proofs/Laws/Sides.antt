@@ -13,13 +13,15 @@ use Rattle.automata.specs.Successors.{edge_rows}
 use Rattle.automata.specs.Checks.{has}
 use Rattle.automata.proofs.Laws.Tests.{never}
 use Rattle.regions.specs.Values.{bounds_of, edge_of}
-use Rattle.regions.specs.declared.region.Clocks.{Clocks}
 use Rattle.regions.specs.declared.edge.Edge as edge_code
 use Rattle.skylines.specs.Sides.{sided, is_choice}
 use Rattle.skylines.proofs.Laws.Sides.{sided_bounded, sides_every}
 use Rattle.listed_rows.specs.Listed.{listed_row, listed_rows}
 use Rattle.walked_rows.specs.Open.{Inside, FirstOpen, SomeOpen}
-use Rattle.walked_rows.specs.Leading.{Suited, TakenInside}
+use Rattle.listed_rows.specs.Located.{RowsIn}
+use Rattle.listed_rows.specs.EdgesInLists.{bounds_in, edge_in}
+use Rattle.listed_rows.specs.declared.edge_in_list.EdgeInList.{EdgeInList}
+use Rattle.walked_rows.specs.Leading.{TakenInside, LeadsIn}
 use Rattle.walked_rows.proofs.Laws.Open.{first_none, first_as, first_then}
 
 -- an edge by its sides leads from where the edge does to where the edge does
@@ -28,20 +30,23 @@ unfolding sided
 sided_ends n e k = (refl, refl)
 
 -- the edge that the code takes is for the same list and clocks
-module _ (k : Clocks) (e s : edge_code.Edge) (j : ℕ) (means : edge_of k.count s ≡ sided k.count (edge_of k.count e) j) where
-  pub side_source : s.source ≡ e.source
-  side_source = ap (λ (d : Edge). d.source) means ∙ (sided_ends k.count (edge_of k.count e) j).0
+module _ (k : EdgeInList) (s : edge_code.Edge) (j : ℕ) (means : edge_of k.list.clocks.count s ≡ sided k.list.clocks.count (edge_in k) j) where
+  pub side_source : s.source ≡ k.e.source
+  side_source = ap (λ (d : Edge). d.source) means ∙ (sided_ends k.list.clocks.count (edge_in k) j).0
 
-  pub side_target : s.target ≡ e.target
-  side_target = ap (λ (d : Edge). d.target) means ∙ (sided_ends k.count (edge_of k.count e) j).1
+  pub side_target : s.target ≡ k.e.target
+  side_target = ap (λ (d : Edge). d.target) means ∙ (sided_ends k.list.clocks.count (edge_in k) j).1
 
-  pub side_suited : (list : List ℕ) (count : ℕ) → s.guard_count ≡ e.guard_count → Suited k list count e → Suited k list count s
-  side_suited list count few S = record {
-    listed = S.listed;
-    ascends = S.ascends;
-    few_guards = omega (arith, few, S.few_guards);
-    bounded = rw means (rw S.listed.sized at (sided_bounded (bounds_of k) (edge_of k.count e) S.bounded j));
-  }
+  pub side_bounded : Bounded (bounds_in k) (edge_of k.list.clocks.count s)
+  side_bounded = rw means (rw k.list.sized at (sided_bounded (bounds_in k) (edge_in k) k.bounded j))
+
+  pub side_rows_in : RowsIn k.list.clocks.count k.list.bytes.now k.list.count s.target k.into.start k.into.end
+  side_rows_in = rw side_target k.rows_in
+
+-- it leads into the same list just where the edge by these sides does
+pub side_leads : (k s : EdgeInList) (j : ℕ) → s.list ≡ k.list → edge_in s ≡ sided k.list.clocks.count (edge_in k) j
+    → LeadsIn s ≡ Inside (edge_rows (bounds_in k) (sided k.list.clocks.count (edge_in k) j)) k.list.clocks.count k.list.bytes.now k.list.count
+side_leads k s j same means = λ t. Inside (edge_rows (bounds_of (same t).clocks) (means t)) (same t).clocks.count (same t).bytes.now (same t).count
 
 module _ (c : List ℕ) (e : Edge) (n : ℕ) (list : List ℕ) (count start end : ℕ) where
   -- by the sides of the choices before k the edge leads into the list from row i

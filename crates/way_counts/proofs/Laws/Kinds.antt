@@ -20,8 +20,6 @@ use Rattle.regions.specs.declared.clock_move.Move.{Move}
 use Rattle.regions.proofs.Laws.Move.{freeb, by_partsb, is_parts, is_fixed, fits_free, fits_parts, fits_fixed, permits_free, permits_fixed, stretch_permits}
 use Rattle.way_counts.specs.Kinds.{open_kind, kind, number, of_kind}
 use Rattle.way_counts.specs.declared.kinds.Kind as code
-use mathlib.Core.List.{[], ◌∷◌}
-use lib.ListN.{get_or}
 use Rattle.way_counts.proofs.Laws.Sums.{total, total_from}
 
 -- the code's cases --------------------------------------------------------------------------------------------------------------------
@@ -140,12 +138,6 @@ pub number_low : (k : code.Kind) → number k < 3
 number_low code.TheVariants.Shut = omega arith
 number_low code.TheVariants.Parted = omega arith
 number_low code.TheVariants.Loose = omega arith
-
-pub number_at : (d : ℕ) (k : code.Kind) → d < 3 → number (get_or (code.TheVariants.Shut ∷ code.TheVariants.Parted ∷ code.TheVariants.Loose ∷ []) d k) ≡ d
-number_at zero k h = refl
-number_at (suc zero) k h = refl
-number_at (suc (suc zero)) k h = refl
-number_at (suc (suc (suc d))) k h = absurd (omega arith)
 
 pub number_permits : (m : Move) (j : ℕ) (k : code.Kind) (b : Bool) → b ≡ eqb (kind m j) (number k) → b ≡ true → j ≤ m.top
 number_permits m j k b e t = (kind_permits m j (omega (arith, (eqb_law (kind m j) (number k)).0 (sym e ∙ t), number_low k))).0

@@ -4,7 +4,7 @@ use native.Mathlib.Nat.{mul-le-mul, le_of_eq, zero-mul}
 use native.Mathlib.Numerals.{add-one}
 use native.Mathlib.Decide.{ℕ_discrete}
 use native.Mathlib.Omega.{arith}
-use mathlib.Core.Path.{◌≡◌, refl, sym, ap, ◌∙◌}
+use mathlib.Core.Path.{◌≡◌, refl, sym, ap, subst, ◌∙◌}
 use mathlib.Core.Bool.{Bool, true, false, cond, not}
 use mathlib.Core.List.{List, [], ◌∷◌, map}
 use lib.Dec.{eqb}
@@ -23,12 +23,13 @@ use Rattle.regions.specs.declared.clock_move.Move.{Move}
 use Rattle.regions.specs.declared.region.Region.{Region}
 use Rattle.rankings.specs.Ranking.{ranked_rows}
 use Rattle.edge_walk.specs.Choice.{allowsb, Ready}
-use Rattle.edge_walk.specs.Way.{way_rows}
+use Rattle.edge_walk.specs.Way.{rows_on}
 use Rattle.edge_walk.specs.declared.way.Way.{Way}
-use Rattle.edge_walk.specs.declared.choice.Search.{Search}
-use Rattle.way_counts.specs.Kinds.{kind, of_kind}
-use Rattle.way_counts.specs.Patterns.{sum_below, product, digits_from, digit, patterns, move_at, Counts, FewOfEach, count_at, sample_at, times, samples_of, ways, pattern_rows}
+use Rattle.edge_walk.specs.declared.search.Search.{Search}
+use Rattle.way_counts.specs.Kinds.{kind}
+use Rattle.way_counts.specs.Patterns.{sum_below, product, digits_from, digit, patterns, move_at, entry, Right, Counts, FewOfEach, count_at, sample_at, times, samples_of, ways, pattern_rows}
 use Rattle.way_counts.specs.declared.patterns.Kinds.{Kinds}
+use Rattle.way_counts.specs.declared.patterns.OfKind.{OfKind}
 use Rattle.automata.proofs.Laws.Tests.{refutes, allb_law}
 use Rattle.automata.proofs.Laws.Lists.{length_each, at_each}
 use Rattle.regions.proofs.Laws.Values.{at_take, take_padded}
@@ -41,46 +42,28 @@ use Rattle.way_counts.proofs.Laws.Ways.{ways_loose, ways_low, patterns_total}
 
 -- the kinds of all clocks -------------------------------------------------------------------------------------------------------------
 
--- number i of the table is right
-pub record Right (m : Move) (d count sample : ℕ) : Type 0 where
-  pub counted : count ≡ of_kind m d (m.top + 1)
-  pub within : sample ≤ m.top
-  pub alike : (j : ℕ) → j ≤ m.top → kind m j ≡ d → kind m sample ≡ d
-
--- the first i numbers are filled
-pub record Filled (ms : List Move) (i : ℕ) (counts samples : List ℕ) : Type 0 where
-  pub counts_long : length counts ≡ 12
-  pub samples_long : length samples ≡ 12
-  pub right : (j : ℕ) → j < i → Right (get_or ms (j / 3) still) (j % 3) (at counts j) (at samples j)
+-- those of the first i clocks are there
+pub record Filled (ms : List Move) (i : ℕ) (each : List (List OfKind)) : Type 0 where
+  pub long : length each ≡ 4
+  pub right : (z d : ℕ) → z < i → d < 3 → Right (get_or ms z still) d (entry (record { each = each }) z d)
 
 module _ (ms : List Move) where
-  pub filled_none : (counts samples : List ℕ) → length counts ≡ 12 → length samples ≡ 12 → Filled ms 0 counts samples
-  filled_none counts samples a b = record { counts_long = a; samples_long = b; right = λ j h. absurd (omega arith) }
+  pub filled_none : (each : List (List OfKind)) → length each ≡ 4 → Filled ms 0 each
+  filled_none each e = record { long = e; right = λ z d h. absurd (omega arith) }
 
-  pub filled_one : (i : ℕ) (counts samples : List ℕ) (x y : ℕ) → Filled ms i counts samples → i < 12 → Right (get_or ms (i / 3) still) (i % 3) x y
-      → Filled ms (i + 1) (set counts i x) (set samples i y)
-  filled_one i counts samples x y F h r = record {
-    counts_long = length-set counts i x ∙ F.counts_long;
-    samples_long = length-set samples i y ∙ F.samples_long;
-    right = λ j l. go j l (ℕ_discrete j i);
-  }
+  pub filled_one : (i : ℕ) (each : List (List OfKind)) (a b c : OfKind) → Filled ms i each → i < 4 → Right (get_or ms i still) 0 a → Right (get_or ms i still) 1 b
+      → Right (get_or ms i still) 2 c → Filled ms (i + 1) (set each i (a ∷ b ∷ c ∷ []))
+  filled_one i each a b c F h at_0 at_1 at_2 = record { long = length-set each i (a ∷ b ∷ c ∷ []) ∙ F.long; right = λ z d l k. go z d l k (ℕ_discrete z i) }
     where
-      go : (j : ℕ) → j < i + 1 → Dec (j ≡ i) → Right (get_or ms (j / 3) still) (j % 3) (at (set counts i x) j) (at (set samples i y) j)
-      go j l (yes e) = rw (e, get_or-set_same counts i x 0 (omega (arith, F.counts_long)), get_or-set_same samples i y 0 (omega (arith, F.samples_long))) r
-      go j l (no e) = rw (get_or-set_other counts i j x 0 e, get_or-set_other samples i j y 0 e) (F.right j (omega arith))
+      its : (d : ℕ) → d < 3 → Right (get_or ms i still) d (get_or (a ∷ b ∷ c ∷ []) d (record { count = 0; sample = 0 }))
+      its zero k = at_0
+      its (suc zero) k = at_1
+      its (suc (suc zero)) k = at_2
+      its (suc (suc (suc d))) k = absurd (omega arith)
 
-pub filled_all : (s : Search) (i : ℕ) (t : Kinds) → Filled s.moves.each i t.counts t.samples → 3 * s.clocks.count ≤ i → Counts s t
-filled_all s i t F h = record {
-  counts = λ z d k l. (its z d k l).counted;
-  within = λ z d k l. (its z d k l).within;
-  alike = λ z d j k l. (its z d k l).alike j;
-}
-  where
-    its : (z d : ℕ) → z < s.clocks.count → d < 3 → Right (move_at s z) d (at t.counts (3 * z + d)) (at t.samples (3 * z + d))
-    its z d k l =
-        let a : (3 * z + d) / 3 ≡ z = omega arith in
-        let b : (3 * z + d) % 3 ≡ d = omega arith in
-        rw (a, b) at (F.right (3 * z + d) (omega arith))
+      go : (z d : ℕ) → z < i + 1 → d < 3 → Dec (z ≡ i) → Right (get_or ms z still) d (entry (record { each = set each i (a ∷ b ∷ c ∷ []) }) z d)
+      go z d l k (yes e) = rw (e, get_or-set_same each i (a ∷ b ∷ c ∷ []) [] (omega (arith, F.long))) (its d k)
+      go z d l k (no e) = rw (get_or-set_other each i z (a ∷ b ∷ c ∷ []) [] e) (F.right z d (omega arith) k)
 
 -- a pattern ---------------------------------------------------------------------------------------------------------------------------
 
@@ -120,20 +103,20 @@ module _ (t : Kinds) (n number : ℕ) (four : n ≤ 4) (few : FewOfEach n t) whe
 
   -- one clock more
   module _ (location z : ℕ) (part : Region) (many digit_z : ℕ) (C : Chosen t number location z part many) (h : z < n) (e : digit_z ≡ digit number z) where
-    times_on : many * at t.counts (3 * z + digit_z) ≡ product (z + 1) (count_at t number)
+    times_on : many * (entry t z digit_z).count ≡ product (z + 1) (count_at t number)
     unfolding count_at
     times_on = rw (add-one z, product_last z (count_at t number), e, C.many_are)
 
-    pub times_fit : many * at t.counts (3 * z + digit_z) ≤ 4294967296
+    pub times_fit : many * (entry t z digit_z).count ≤ 4294967296
     times_fit = omega (arith, times_on, product_low (z + 1) (count_at t number) (omega arith) (λ w l. few_at w (omega arith)))
 
-    pub chosen_on : (x : ℕ) → x ≡ at t.samples (3 * z + digit_z)
+    pub chosen_on : (x : ℕ) → x ≡ (entry t z digit_z).sample
         → Chosen t number location (z + 1) (record { location = part.location; intervals = set part.intervals z x; ranks = part.ranks })
-        (many * at t.counts (3 * z + digit_z))
+        (many * (entry t z digit_z).count)
     unfolding sample_at
     chosen_on x f = record {
       located = C.located;
-      intervals = filled_more (sample_at t number) z part.intervals x (omega arith) C.intervals (rw (← e) f);
+      intervals = filled_more (sample_at t number) z part.intervals x (omega arith) C.intervals (subst (λ (d : ℕ). x ≡ (entry t z d).sample) e f);
       many_are = times_on;
     }
 
@@ -188,12 +171,12 @@ module _ (s : Search) (R : Ready s) (four : length s.clocks.bounds ≡ 4) (t : K
   abbrev samples : List ℕ
   samples = samples_of t n number
 
-  sample_is : (z : ℕ) → z < n → at samples z ≡ at t.samples (3 * z + digit number z)
+  sample_is : (z : ℕ) → z < n → at samples z ≡ (entry t z (digit number z)).sample
   unfolding sample_at
   sample_is z h = at_each n (sample_at t number) z h
 
   pub samples_within : (z : ℕ) → z < n → at samples z ≤ (move_at s z).top
-  samples_within z h = rw (sample_is z h) (T.within z (digit number z) h (digit_low number z))
+  samples_within z h = rw (sample_is z h) ((T z (digit number z) h (digit_low number z)).within)
 
   samples_low : ways s l samples ≤ 75
   samples_low = ways_low s R four l samples (length_each n (sample_at t number)) samples_within
@@ -212,8 +195,8 @@ module _ (s : Search) (R : Ready s) (four : length s.clocks.bounds ≡ 4) (t : K
   sample_kind some z h =
       let low = digit_low number z in
       let (j, k, e) = one_counted (move_at s z) (digit number z) ((move_at s z).top + 1)
-      (rw (T.counts z (digit number z) h low) at (product_some n (count_at t number) some z h)) in
-      rw (sample_is z h) (T.alike z (digit number z) j h low (omega arith) e)
+      (rw (T z (digit number z) h low).counted at (product_some n (count_at t number) some z h)) in
+      rw (sample_is z h) ((T z (digit number z) h low).alike j (omega arith) e)
 
   pub loose_ways : (times t n number ≡ 0 → ⊥) → Loose number n → ways s l samples ≡ length (ranked_rows (bounds_of s.clocks) l samples)
   loose_ways some loose =
@@ -242,7 +225,7 @@ module _ (s : Search) (R : Ready s) (four : length s.clocks.bounds ≡ 4) (t : K
 -- all patterns ------------------------------------------------------------------------------------------------------------------------
 
 pub few_of_each : (s : Search) → Ready s → (t : Kinds) → Counts s t → ((z : ℕ) → z < s.clocks.count → at s.clocks.bounds z ≤ 127) → FewOfEach s.clocks.count t
-few_of_each s R t T low z d h l = omega (arith, T.counts z d h l, of_kind_le (move_at s z) d ((move_at s z).top + 1), R.tops z h, low z h)
+few_of_each s R t T low z d h l = omega (arith, (T z d h l).counted, of_kind_le (move_at s z) d ((move_at s z).top + 1), R.tops z h, low z h)
 
 pub patterns_low : (n : ℕ) → n ≤ 4 → patterns n ≤ 81
 unfolding patterns
@@ -266,10 +249,6 @@ unfolding sum_below
 sum_low f zero m h = omega arith
 sum_low f (suc n) m h = omega (arith, sum_low f n m h, h n)
 
-pub nowhere : (w : Way) → w.leads ≡ false → 0 ≡ length (way_rows w)
-unfolding way_rows
-nowhere w e = rw e
-
 module _ (w : Way) (R : Ready w.search) (four : length w.search.clocks.bounds ≡ 4) (t : Kinds) (T : Counts w.search t) (few : FewOfEach w.search.clocks.count t)
     (k : ℕ) (d : k ≡ patterns w.search.clocks.count) where
   pub sum_fits : sum (map (pattern_rows w.search w.target t) (range_with_len 0 k)) < 18446744073709551616
@@ -282,6 +261,6 @@ module _ (w : Way) (R : Ready w.search) (four : length w.search.clocks.bounds �
         d,
       )
 
-  pub way_summed : w.leads ≡ true → sum (map (pattern_rows w.search w.target t) (range_with_len 0 k)) ≡ length (way_rows w)
-  unfolding way_rows
-  way_summed e = rw e (sum_is (pattern_rows w.search w.target t) k ∙ ap (λ (i : ℕ). sum_below i (pattern_rows w.search w.target t)) d ∙ sym (patterns_total w.search R four w.target t T))
+  pub way_summed : sum (map (pattern_rows w.search w.target t) (range_with_len 0 k)) ≡ length (rows_on w)
+  unfolding rows_on
+  way_summed = sum_is (pattern_rows w.search w.target t) k ∙ ap (λ (i : ℕ). sum_below i (pattern_rows w.search w.target t)) d ∙ sym (patterns_total w.search R four w.target t T)

@@ -2,7 +2,7 @@
 use Prim.Native.Nat.{ℕ, zero, suc, ◌+◌, ◌*◌, ◌≤◌, ◌<◌}
 use native.Mathlib.Decide.{ℕ_discrete}
 use native.Mathlib.Omega.{arith}
-use mathlib.Core.Path.{◌≡◌, refl, sym, ap, ◌∙◌}
+use mathlib.Core.Path.{◌≡◌, sym, ap, ◌∙◌}
 use mathlib.Core.Bool.{Bool, true, false, cond, not, ◌&&◌, ◌||◌}
 use mathlib.Core.Logic.{◌⊎◌, inl, inr}
 use mathlib.Core.List.{List, map}
@@ -21,17 +21,17 @@ use Rattle.regions.specs.Placing.{still, rank_fits_at, greedy_at, placed_at}
 use Rattle.regions.specs.declared.clock_move.Move.{Move}
 use Rattle.rankings.specs.Ranking.{ranked_rows}
 use Rattle.edge_walk.specs.Choice.{allowsb, Ready}
-use Rattle.edge_walk.specs.declared.choice.Search.{Search}
+use Rattle.edge_walk.specs.declared.search.Search.{Search}
 use Rattle.way_counts.specs.Kinds.{kind, of_kind}
-use Rattle.way_counts.specs.Patterns.{sum_below, digit, patterns, move_at, Counts, count_at, sample_at, samples_of, ways, pattern_rows}
+use Rattle.way_counts.specs.Patterns.{sum_below, digit, patterns, move_at, entry, Counts, count_at, sample_at, samples_of, ways, pattern_rows}
 use Rattle.way_counts.specs.declared.patterns.Kinds.{Kinds}
-use Rattle.automata.proofs.Laws.Tests.{fails, allb_law}
+use Rattle.automata.proofs.Laws.Tests.{fails}
 use Rattle.automata.proofs.Laws.Members.{map_out, select_out, from_out}
 use Rattle.automata.proofs.Laws.Rows.{isrowb_law}
 use Rattle.regions.proofs.Laws.Values.{at_take, length_bounds}
-use Rattle.regions.proofs.Laws.Least.{least_here}
 use Rattle.regions.proofs.Laws.Placing.{allb_same, placed_permits}
 use Rattle.rankings.proofs.Laws.Ranking.{ranked_count}
+use Rattle.edge_walk.proofs.Laws.Allowing.{placed_everywhere}
 use Rattle.edge_walk.proofs.Laws.Way.{select_none}
 use Rattle.way_counts.proofs.Laws.Sums.{total, total_same, selected_all, selected_le, length_gathered, length_selected, choices_same, sum_same, product_same}
 use Rattle.way_counts.proofs.Laws.Kinds.{kind_says, kind_permits, permits_kind, kind_le, kind_total}
@@ -51,25 +51,6 @@ module _ (ms : List Move) (g m : ℕ) where
 
       same : rank_fits_at ms m js ks ≡ rank_fits_at ms m js' ks
       same i a p = one a p i
-
-  -- what fits everywhere is placed
-  module _ (js ks : List ℕ) (h : (z : ℕ) → z < m → (p : ℕ) → fits_at (get_or ms z still) (at js z) p ≡ true) where
-    all_fit : (a p : ℕ) → rank_fits_at ms m js ks a p ≡ true
-    unfolding rank_fits_at
-    all_fit a p = (allb_law m _ (λ z. (λ e. e, λ e. e))).1 (λ z l. rw (h z l p) (or_true (not (eqb (at ks z) a))))
-      where
-        or_true : (b : Bool) → (b || true) ≡ true
-        or_true true = refl
-        or_true false = refl
-
-    at_first : (a : ℕ) → greedy_at (rank_fits_at ms m js ks) g a ≡ 0
-    unfolding greedy_at
-    at_first zero = refl
-    at_first (suc a) = rw (at_first a) (least_here (rank_fits_at ms m js ks (suc a)) (2 * g + 1) 0 (omega arith) (all_fit (suc a) 0))
-
-    pub placed_everywhere : placed_at ms g m js ks ≡ true
-    unfolding placed_at
-    placed_everywhere = rw (all_fit 0 0, at_first (greatest (take m ks))) (le-leb 0 (2 * g) (omega arith))
 
 -- rows of the same intervals ----------------------------------------------------------------------------------------------------------
 
@@ -227,16 +208,16 @@ module _ (s : Search) (R : Ready s) (four : length s.clocks.bounds ≡ 4) (l : �
 
   module _ (t : Kinds) (T : Counts s t) where
     abbrev sample : ℕ → ℕ → ℕ
-    sample z d = at t.samples (3 * z + d)
+    sample z d = (entry t z d).sample
 
     valid : (z d x : ℕ) → z < n → d < 3 → Mem x (intervals z) → kind_at z x ≡ d → kind_at z (sample z d) ≡ d
-    valid z d x h k m e = T.alike z d x h k (omega (arith, (from_out 0 (2 * at c z + 2) x m).1, top_is z h)) e
+    valid z d x h k m e = (T z d h k).alike x (omega (arith, (from_out 0 (2 * at c z + 2) x m).1, top_is z h)) e
 
     counted : (k z : ℕ) → z < n → many (kind_at z) (digit k z) (intervals z) ≡ count_at t k z
     unfolding count_at
     counted k z h =
         let e : 2 * at c z + 2 ≡ (move_at s z).top + 1 = omega (arith, top_is z h) in
-        kind_total (move_at s z) (digit k z) (2 * at c z + 2) ∙ ap (of_kind (move_at s z) (digit k z)) e ∙ sym (T.counts z (digit k z) h (digit_low k z))
+        kind_total (move_at s z) (digit k z) (2 * at c z + 2) ∙ ap (of_kind (move_at s z) (digit k z)) e ∙ sym (T z (digit k z) h (digit_low k z)).counted
 
     one_pattern : (k : ℕ) → pattern_times intervals kind_at sample n k * ways s l (pattern_sample intervals kind_at sample n k) ≡ pattern_rows s l t k
     unfolding pattern_rows sample_at

@@ -9,4 +9,4 @@ nonzero_div-result c =
 
 pub returns : goal.returns
 returns c =
-    fit_count c.args.clocks.count c.requires c.args.count c.args.room c.width_of.result c.width_of.ensures
+    fit_count c.args.clocks.count c.args.clocks.few c.args.count c.args.room c.width_of.result c.width_of.ensures

@@ -7,4 +7,4 @@ use lib.ListN.{take}
 use Rattle.following.proofs.writing.write_ranked.Given as goal
 
 abbrev pub invariant-loop-j : goal.invariant-loop-j
-invariant-loop-j l = Put (select (allowsb (record { clocks = l.clocks; moves = l.moves })) (take l.j (rows_ranked l.clocks l.part))) l.initial.buffer l.buffer l.at × Kept (record { clocks = l.clocks; moves = l.moves }) l.memo
+invariant-loop-j l = Put (select (allowsb l.fn.search) (take l.j (rows_ranked l.clocks l.part))) l.initial.buffer l.buffer l.at × Kept l.fn.search l.memo

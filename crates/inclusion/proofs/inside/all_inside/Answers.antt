@@ -1,3 +1,4 @@
+use Rattle.edge_walk.proofs.Laws.Ready.{ready_of}
 use Rattle.edge_walk.proofs.Laws.Stand.{sets_out}
 use Rattle.edge_walk.proofs.Laws.Visit.{visit_ends}
 use Rattle.ranked_ways.proofs.Laws.Memo.{kept_none}
@@ -14,12 +15,12 @@ loop-stand-init c =
 
 pub returns-in_err-last : goal.returns-in_err-last
 returns-in_err-last c =
-    rw (err_from_is_err_and c.from_residual.result c.from_residual.ensures.1).1 (chosen_fails _ c.requires.ready (search rules) _ _ _ c.loop-stand.invariant.0 c.loop-stand.invariant.1 _ c.in_err-last.ensures.listed refl)
+    rw (err_from_is_err_and c.from_residual.result c.from_residual.ensures.1).1 (chosen_fails _ (ready_of c.args.search) (search rules) _ _ _ c.loop-stand.invariant.0 c.loop-stand.invariant.1 _ c.in_err-last.ensures.listed refl)
 
 pub loop-stand-preserved : goal.loop-stand-preserved
 loop-stand-preserved c =
-    (chosen_on _ c.requires.ready (search rules) _ _ _ c.loop-stand.invariant.0 c.loop-stand.invariant.1 _ c.in_ok-last.ensures.listed refl _ c.step_intervals-stand.ensures.step, c.step_intervals-stand.ensures.chosen, c.look.ensures.memo)
+    (chosen_on _ (ready_of c.args.search) (search rules) _ _ _ c.loop-stand.invariant.0 c.loop-stand.invariant.1 _ c.in_ok-last.ensures.listed refl _ c.step_intervals-stand.ensures.step, c.step_intervals-stand.ensures.chosen, c.look.ensures.memo)
 
 pub returns : goal.returns
 returns c =
-    visit_ends _ _ _ _ c.loop-stand.invariant.0 c.requires.ready (search rules) (omega (arith, c.loop-stand-test.false))
+    visit_ends _ _ _ _ c.loop-stand.invariant.0 (ready_of c.args.search) (search rules) (omega (arith, c.loop-stand-test.false))

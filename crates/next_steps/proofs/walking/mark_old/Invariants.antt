@@ -7,4 +7,4 @@ use mathlib.Core.Path.{◌≡◌}
 use Rattle.next_steps.proofs.walking.mark_old.Given as goal
 
 abbrev pub invariant-loop-i : goal.invariant-loop-i
-invariant-loop-i l = (length l.old ≡ 4096) × ((j : ℕ) → l.start ≤ j → j < l.i → taken_at l.old j ≡ ltb (birth l.n l.list j) l.first)
+invariant-loop-i l = (length l.old ≡ 4096) × ((j : ℕ) → l.fn.rows.start ≤ j → j < l.i → taken_at l.old j ≡ ltb (birth l.list.clocks.count l.list.bytes.now j) l.first)

@@ -1,13 +1,10 @@
 use Rattle.next_steps.proofs.Laws.Walking.{row_listed}
-use borrow.Author.Tests.{not-false}
 use Rattle.next_steps.proofs.walking.walk_edge.Goals as goal
 
-pub new_from-next-requires-clause-row : goal.new_from-next-requires-clause-row
-new_from-next-requires-clause-row c =
-    let S = c.requires.suited in
-    row_listed c.args.clocks c.args.list.now c.args.count c.args.e S.listed _ (c.requires.mem c.if-last.true)
+pub new_from-requires : goal.new_from-requires
+new_from-requires c =
+    record { row = row_listed c.args.edge.now _ (c.requires.mem c.in-Some.from c.in-Some.is) }
 
-pub new_from-requires-clause-row : goal.new_from-requires-clause-row
-new_from-requires-clause-row c =
-    let S = c.requires.suited in
-    row_listed c.args.clocks c.args.list.now c.args.count c.args.e S.listed _ (c.open_by-open.ensures.one (not-false _ c.if-not-open.false))
+pub new_from-requires-2 : goal.new_from-requires-2
+new_from-requires-2 c =
+    record { row = row_listed c.args.edge.now _ c.in_ok-from.ensures.0 }

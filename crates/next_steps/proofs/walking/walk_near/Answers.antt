@@ -2,10 +2,10 @@ use Rattle.next_steps.proofs.Laws.Walking.{row_listed, near_listed, walked_furth
 use native.Mathlib.Omega.{arith}
 use Rattle.next_steps.proofs.walking.walk_near.Goals as goal
 
-pub new_from-next-requires-clause-row : goal.new_from-next-requires-clause-row
-new_from-next-requires-clause-row c =
-    row_listed c.args.clocks c.args.list.now c.args.count c.args.e c.requires.listed _ (near_listed c.args.clocks c.args.list.now c.args.count c.args.e _ (omega (arith, c.loop-i-test.true)) _ c.row_at-region.ensures)
+pub new_from-requires : goal.new_from-requires
+new_from-requires c =
+    record { row = row_listed c.args.edge.now _ (near_listed c.args.edge.now _ (omega (arith, c.loop-i-test.true)) _ c.row-from.ensures) }
 
-pub returns-then-next : goal.returns-then-next
-returns-then-next c =
-    λ f. walked_further c.args.clocks c.args.list.now c.args.count c.args.e _ c.new_from-next.result (near_listed c.args.clocks c.args.list.now c.args.count c.args.e _ (omega (arith, c.loop-i-test.true)) _ c.row_at-region.ensures) c.new_from-next.ensures f
+pub returns-in-Some : goal.returns-in-Some
+returns-in-Some c =
+    walked_further c.args.edge.now _ _ (near_listed c.args.edge.now _ (omega (arith, c.loop-i-test.true)) _ c.row-from.ensures) c.in-Some.ensures

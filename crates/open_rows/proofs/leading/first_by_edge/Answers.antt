@@ -1,20 +1,19 @@
 use Rattle.open_rows.proofs.Laws.Leading.{source_after, source_here, source_before}
-use Rattle.regions.specs.Values.{bounds_of, edge_of}
 use native.Mathlib.Omega.{arith}
 use Rattle.open_rows.proofs.leading.first_by_edge.Goals as goal
 
-pub returns-then-end-from : goal.returns-then-end-from
-returns-then-end-from c =
-    let e = edge_of c.args.clocks.count c.args.e in let cs = bounds_of c.args.clocks in source_after c.args.clocks.count c.args.list.now c.args.count cs e _ _ c.rows_in-from.ensures c.requires.suited.ascends c.args.end c.requires.end_le_count c.if-end-from.true
+pub returns-then-end-source : goal.returns-then-end-source
+returns-then-end-source c =
+    source_after c.args.edge.now _ _ c.rows_in-source.ensures c.args.end c.requires c.if-end-source.true
 
-pub returns-then-end-from-2 : goal.returns-then-end-from-2
-returns-then-end-from-2 c =
-    let e = edge_of c.args.clocks.count c.args.e in let cs = bounds_of c.args.clocks in source_here c.args.clocks.count c.args.list.now c.args.count cs e _ _ c.rows_in-from.ensures c.requires.suited.ascends c.args.end c.requires.end_le_count (omega (arith, c.if-end-from.false)) c.if-end-from-2.true _ c.first_in_source.ensures
+pub returns-then-end-source-2 : goal.returns-then-end-source-2
+returns-then-end-source-2 c =
+    source_here c.args.edge.now _ _ c.rows_in-source.ensures c.args.end c.requires (omega (arith, c.if-end-source.false)) c.if-end-source-2.true _ c.first_in_source.ensures
 
-pub returns-then-first-from : goal.returns-then-first-from
-returns-then-first-from c =
-    let e = edge_of c.args.clocks.count c.args.e in let cs = bounds_of c.args.clocks in (source_before c.args.clocks.count c.args.list.now c.args.count cs e _ _ c.rows_in-from.ensures c.requires.suited.ascends c.args.end c.requires.end_le_count (omega (arith, c.if-end-from-2.false)) _ c.first_in_source-first.ensures).0 c.if-first-from.true
+pub returns-then-first-source : goal.returns-then-first-source
+returns-then-first-source c =
+    (source_before c.args.edge.now _ _ c.rows_in-source.ensures c.args.end c.requires (omega (arith, c.if-end-source-2.false)) _ c.first_in_source-first.ensures).0 c.if-first-source.true
 
-pub returns : goal.returns
-returns c =
-    let e = edge_of c.args.clocks.count c.args.e in let cs = bounds_of c.args.clocks in (source_before c.args.clocks.count c.args.list.now c.args.count cs e _ _ c.rows_in-from.ensures c.requires.suited.ascends c.args.end c.requires.end_le_count (omega (arith, c.if-end-from-2.false)) _ c.first_in_source-first.ensures).1 c.if-first-from.false
+pub returns-else-first-source : goal.returns-else-first-source
+returns-else-first-source c =
+    (source_before c.args.edge.now _ _ c.rows_in-source.ensures c.args.end c.requires (omega (arith, c.if-end-source-2.false)) _ c.first_in_source-first.ensures).1 c.if-first-source.false

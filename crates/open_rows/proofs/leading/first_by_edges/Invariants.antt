@@ -6,4 +6,4 @@ use mathlib.Core.Path.{◌≡◌}
 use Rattle.open_rows.proofs.leading.first_by_edges.Given as goal
 
 abbrev pub invariant-loop : goal.invariant-loop
-invariant-loop l = FirstOpen (EdgesInside (table_of l.table) l.fn.head.clocks.count l.list l.count l.fn.end l.counter) 0 l.fn.end l.first × (l.at ≡ edge_start l.fn.head.clocks.count l.fn.head.locations l.table l.counter)
+invariant-loop l = FirstOpen (EdgesInside (table_of l.table.file.now) l.list.clocks.count l.list.bytes.now l.list.count l.fn.end l.counter) 0 l.fn.end l.first × (l.at ≡ edge_start l.table.head.clocks.count l.table.head.locations l.table.file.now l.counter)

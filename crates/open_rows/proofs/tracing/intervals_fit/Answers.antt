@@ -13,4 +13,4 @@ pub all-requires-clause-callable : goal.all-requires-clause-callable
 all-requires-clause-callable c =
     let updates : length c.args.e.updates ≡ 4 = search (rules, length_under) in
     let bounds : length c.args.clocks.bounds ≡ 4 = search rules in
-    serves_from_Range (λ x q k. search (rules, tests)) (λ x a h. let few : x < 4 = omega (arith, c.requires.few.few) in let bounded = bounded_at c.args.clocks c.args.from c.args.e c.requires.few.few updates x h bounds c.requires.bounded in search rules)
+    serves_from_Range (λ x q k. search (rules, tests)) (λ x a h. let few : x < 4 = omega (arith, c.args.clocks.few) in let bounded = bounded_at c.args.clocks c.args.from c.args.e c.args.clocks.few updates x h bounds c.requires.bounded in search rules)

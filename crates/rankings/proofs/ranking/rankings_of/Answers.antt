@@ -9,4 +9,4 @@ overflow_sub-result c =
 
 pub returns : goal.returns
 returns c =
-    rw (c.start_of-2.ensures, c.start_of.ensures, c.open_pattern-pattern.ensures.value) (sym (rankings_are c.args.clocks c.args.part c.requires.few.few (search rules) (search rules) c.requires.in_range))
+    rw (c.start_of-2.ensures, c.start_of.ensures, c.open_pattern-pattern.ensures.value) (sym (rankings_are c.args.clocks c.args.part c.args.clocks.few (search rules) (search rules) c.requires.in_range))

@@ -1,13 +1,14 @@
 use Rattle.automata.proofs.Laws.Comparison.{no_comparison}
-use Rattle.automata.specs.Comparison.{answer, holds}
-use mathlib.Core.Path.{sym}
+use Rattle.automata.specs.Comparison.{holds, answer}
+use borrow.Author.Rules.{rules}
+use borrow.Author.Tests.{tests}
 use Rattle.regions.proofs.comparison.holds.Goals as goal
 
-pub returns-then-row-ge-COMPARISONS : goal.returns-then-row-ge-COMPARISONS
-returns-then-row-ge-COMPARISONS c =
-    sym (no_comparison _ _ _ c.if-row-ge-COMPARISONS.true)
-
-pub returns : goal.returns
+pub returns-then-row-lt-COMPARISONS : goal.returns-then-row-lt-COMPARISONS
 unfolding holds answer
-returns c =
-    rw c.side-column.ensures
+returns-then-row-lt-COMPARISONS c =
+    rw c.side.ensures
+
+pub returns-else-row-lt-COMPARISONS : goal.returns-else-row-lt-COMPARISONS
+returns-else-row-lt-COMPARISONS c =
+    search (rules, tests, no_comparison)

@@ -1,15 +1,14 @@
-use Rattle.automata.proofs.Laws.Comparison.{not_below_alone, not_above_alone, at_is_alone}
-use mathlib.Core.Path.{sym, ◌∙◌}
+use Rattle.automata.specs.Comparison.{at_alone}
+use borrow.Author.Rules.{rules}
+use borrow.Author.Tests.{tests}
+use Rattle.std.proofs.lemmas.Grind.{common_steps}
+use native.Mathlib.Omega.{arith}
 use Rattle.regions.proofs.comparison.is_at_alone.Goals as goal
 
-pub returns-then-answers : goal.returns-then-answers
-returns-then-answers c =
-    not_below_alone _ (sym c.answers_of-answers.ensures.below ∙ c.if-answers.true)
+pub returns-then-not-answers : goal.returns-then-not-answers
+unfolding at_alone
+returns-then-not-answers c = search (rules, tests)
 
-pub returns-then-answers-2 : goal.returns-then-answers-2
-returns-then-answers-2 c =
-    not_above_alone _ (sym c.answers_of-answers.ensures.above ∙ c.if-answers-2.true)
-
-pub returns : goal.returns
-returns c =
-    c.answers_of-answers.ensures.at ∙ at_is_alone _ (sym c.answers_of-answers.ensures.below ∙ c.if-answers.false) (sym c.answers_of-answers.ensures.above ∙ c.if-answers-2.false)
+pub returns-else-not-answers : goal.returns-else-not-answers
+unfolding at_alone
+returns-else-not-answers c = search (rules, tests)

@@ -7,6 +7,3 @@ use Rattle.regions.proofs.image.dense_ranks.Given as goal
 
 abbrev pub invariant-loop-z : goal.invariant-loop-z
 invariant-loop-z l = (l.z ≤ l.clocks) × (l.dense ≡ padded (each l.z (dense_at l.ranks l.clocks)))
-
-abbrev pub decreases-loop-z : goal.decreases-loop-z
-decreases-loop-z l = l.clocks - l.z

@@ -7,6 +7,3 @@ use Rattle.regions.proofs.image.used_ranks.Given as goal
 
 abbrev pub invariant-loop-z : goal.invariant-loop-z
 invariant-loop-z l = (l.z ≤ l.clocks) × (length l.used ≡ 5) × ((a : ℕ) → a < 5 → marked l.used a ≡ usedb l.ranks l.z a)
-
-abbrev pub decreases-loop-z : goal.decreases-loop-z
-decreases-loop-z l = l.clocks - l.z

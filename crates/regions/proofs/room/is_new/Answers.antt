@@ -1,10 +1,12 @@
-use Rattle.regions.proofs.Laws.RegionTests.{not_new, new_is}
+use Rattle.automata.specs.Rankings.{newb}
+use borrow.Author.Rules.{rules}
+use borrow.Author.Tests.{tests}
 use Rattle.regions.proofs.room.is_new.Goals as goal
 
-pub returns-then-rank-eq0 : goal.returns-then-rank-eq0
-returns-then-rank-eq0 c =
-    not_new c.args.ranks _ c.if-rank-eq0.true
+pub returns-then-rank-ne0 : goal.returns-then-rank-ne0
+unfolding newb
+returns-then-rank-ne0 c = search (rules, tests)
 
-pub returns : goal.returns
-returns c =
-    new_is c.args.ranks _ _ c.if-rank-eq0.false c.is_used.ensures
+pub returns-else-rank-ne0 : goal.returns-else-rank-ne0
+unfolding newb
+returns-else-rank-ne0 c = search (rules, tests)

@@ -17,4 +17,4 @@ loop-rank-preserved c =
 
 pub returns : goal.returns
 returns c =
-    c.loop-rank.invariant
+    (omega arith, λ a l k. c.loop-rank.invariant.1 a l (omega arith))

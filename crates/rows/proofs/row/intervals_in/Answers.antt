@@ -4,4 +4,4 @@ use Rattle.rows.proofs.row.intervals_in.Goals as goal
 
 pub returns : goal.returns
 returns c =
-    four_filled _ _ c.requires.0 _ _ _ _ (c.wide-first.ensures ∙ c.byte_of.ensures) (c.wide-second.ensures ∙ c.byte_of-2.ensures) (c.wide-third.ensures ∙ c.byte_of-3.ensures) (c.wide-fourth.ensures ∙ c.byte_of-4.ensures)
+    four_filled _ _ c.requires.0 _ _ _ _ (c.wide.ensures ∙ c.byte_of.ensures) (c.wide-2.ensures ∙ c.byte_of-2.ensures) (c.wide-3.ensures ∙ c.byte_of-3.ensures) (c.wide-4.ensures ∙ c.byte_of-4.ensures)

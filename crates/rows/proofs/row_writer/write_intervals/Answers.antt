@@ -6,32 +6,16 @@ use mathlib.Core.Path.{◌≡◌}
 use native.Mathlib.Omega.{arith}
 use Rattle.rows.proofs.row_writer.write_intervals.Goals as goal
 
-pub offset_bounds-intervals-z : goal.offset_bounds-intervals-z
-offset_bounds-intervals-z c =
-    omega (arith, c.requires.by_index _ c.loop-z-test.true)
-
-pub bounds-intervals-z : goal.bounds-intervals-z
-bounds-intervals-z c =
-    omega (arith, c.requires.by_index _ c.loop-z-test.true)
-
 pub overflow_cast-out : goal.overflow_cast-out
 overflow_cast-out c =
-    omega (arith, c.requires.by_index _ c.loop-z-test.true)
-
-pub bounds-out-z : goal.bounds-out-z
-bounds-out-z c =
-    omega (arith, c.requires.by_index _ c.loop-z-test.true)
-
-pub overflow_add-z : goal.overflow_add-z
-overflow_add-z c =
     omega (arith, c.requires.by_index _ c.loop-z-test.true)
 
 pub loop-z-preserved : goal.loop-z-preserved
 loop-z-preserved c =
     let long : length c.args.intervals ≡ 4 = search rules in
-    (omega arith, copy_next c.args.intervals _ _ _ 0 c.loop-z.invariant.1 (omega arith) (omega arith), simp length-set c.loop-z.invariant.2)
+    (copy_next c.args.intervals _ _ _ 0 c.loop-z.invariant.0 (omega arith) (omega arith), simp length-set c.loop-z.invariant.1)
 
 pub returns : goal.returns
 returns c =
     let e : c.loop-z.z ≡ c.args.n = omega arith in
-    rw e at c.loop-z.invariant.1
+    rw e at c.loop-z.invariant.0

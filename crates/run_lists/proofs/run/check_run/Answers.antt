@@ -1,37 +1,22 @@
-use Rattle.run_lists.proofs.Laws.RunCode.{table_refused, table_opened, opened_answer, run_promises}
+use Rattle.run_lists.proofs.Laws.RunCode.{table_refused, opened_answer, run_promises}
+use Rattle.std.proofs.lemmas.Result.{err_from_is_err_and}
 use Rattle.table_files.proofs.Laws.Bytes.{are_bytes}
-use Rattle.tables.specs.Values.{answer_of}
-use mathlib.Core.Path.{sym, ◌∙◌}
+use Prim.Native.Nat.{ℕ}
+use Rattle.run_lists.specs.Run.{run_from, counted}
+use Rattle.table_files.specs.Admission.{table_of}
+use Rattle.tables.proofs.Laws.Tables.{opened}
+use mathlib.Core.List.{List}
+use mathlib.Core.Path.{sym, ap, ◌∙◌}
 use native.Mathlib.Omega.{arith}
 use Rattle.run_lists.proofs.run.check_run.Goals as goal
 
-pub returns-then-opened-ne0-clause-answer : goal.returns-then-opened-ne0-clause-answer
-returns-then-opened-ne0-clause-answer c =
-    (run_promises c.args.table.now c.args.list.now _ (table_refused c.args.table.now c.open-opened.result c.open-opened.ensures c.args.list.now c.if-opened-ne0.true) (are_bytes c.args.list.now (λ i l. omega (arith, c.type_inv.list i)))).0
+pub returns-in_err-opened : goal.returns-in_err-opened
+returns-in_err-opened c =
+    let p = err_from_is_err_and c.from_residual.result c.from_residual.ensures.1 in
+    let P = run_promises c.args.table.now c.args.list.now _ (table_refused c.args.table.now c.args.list.now c.in_err-opened.ensures) (are_bytes c.args.list.now (λ i l. omega (arith, c.type_inv.list i))) in
+    rw (p.1, p.2) (record { answer = P.0; run = P.1.0; reached = P.1.1 })
 
-pub returns-then-opened-ne0-clause-run : goal.returns-then-opened-ne0-clause-run
-returns-then-opened-ne0-clause-run c =
-    (run_promises c.args.table.now c.args.list.now _ (table_refused c.args.table.now c.open-opened.result c.open-opened.ensures c.args.list.now c.if-opened-ne0.true) (are_bytes c.args.list.now (λ i l. omega (arith, c.type_inv.list i)))).1.0
-
-pub returns-then-opened-ne0-clause-reached : goal.returns-then-opened-ne0-clause-reached
-returns-then-opened-ne0-clause-reached c =
-    (run_promises c.args.table.now c.args.list.now _ (table_refused c.args.table.now c.open-opened.result c.open-opened.ensures c.args.list.now c.if-opened-ne0.true) (are_bytes c.args.list.now (λ i l. omega (arith, c.type_inv.list i)))).1.1
-
-pub check_list-requires : goal.check_list-requires
-check_list-requires c =
-    table_opened c.args.table.now c.open-opened.result c.open-opened.ensures c.args.list.now c.if-opened-ne0.false
-
-pub returns-clause-answer : goal.returns-clause-answer
-returns-clause-answer c =
-    let d = table_opened c.args.table.now c.open-opened.result c.open-opened.ensures c.args.list.now c.if-opened-ne0.false in
-    (run_promises c.args.table.now c.args.list.now (answer_of c.check_list.result) (c.check_list.ensures ∙ sym (opened_answer c.args.table.now c.args.list.now d.passes)) (are_bytes c.args.list.now (λ i l. omega (arith, c.type_inv.list i)))).0
-
-pub returns-clause-run : goal.returns-clause-run
-returns-clause-run c =
-    let d = table_opened c.args.table.now c.open-opened.result c.open-opened.ensures c.args.list.now c.if-opened-ne0.false in
-    (run_promises c.args.table.now c.args.list.now (answer_of c.check_list.result) (c.check_list.ensures ∙ sym (opened_answer c.args.table.now c.args.list.now d.passes)) (are_bytes c.args.list.now (λ i l. omega (arith, c.type_inv.list i)))).1.0
-
-pub returns-clause-reached : goal.returns-clause-reached
-returns-clause-reached c =
-    let d = table_opened c.args.table.now c.open-opened.result c.open-opened.ensures c.args.list.now c.if-opened-ne0.false in
-    (run_promises c.args.table.now c.args.list.now (answer_of c.check_list.result) (c.check_list.ensures ∙ sym (opened_answer c.args.table.now c.args.list.now d.passes)) (are_bytes c.args.list.now (λ i l. omega (arith, c.type_inv.list i)))).1.1
+pub returns : goal.returns
+returns c =
+    let P = run_promises c.args.table.now c.args.list.now _ (c.check_list.ensures ∙ ap (λ (f : List ℕ). counted (run_from (table_of f) c.args.list.now)) c.in_ok-opened.ensures ∙ sym (opened_answer c.args.table.now c.args.list.now (opened c.in_ok-opened.opened c.in_ok-opened.ensures).passes)) (are_bytes c.args.list.now (λ i l. omega (arith, c.type_inv.list i))) in
+    record { answer = P.0; run = P.1.0; reached = P.1.1 }

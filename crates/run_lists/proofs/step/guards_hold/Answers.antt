@@ -1,31 +1,19 @@
+use Prim.Native.Nat.{ℕ, ◌+◌, ◌*◌}
+use Rattle.automata.proofs.Laws.Chains.{allb_from_all}
+use Rattle.automata.specs.Clocks.{at}
+use Rattle.automata.specs.Comparison.{holds}
 use Rattle.regions.specs.declared.edge.Guard.{Guard}
-use Rattle.run_lists.proofs.Laws.OneStep.{guards_on, guards_stop, guards_end}
+use Rattle.run_lists.proofs.Laws.OneStep.{guards_each}
 use borrow.Author.Rules.{rules}
-use lib.ListN.{length}
-use mathlib.Core.Path.{◌≡◌, refl, sym, ◌∙◌}
+use borrow.Author.Tests.{tests}
+use lib.ListN.{length, get_or}
+use mathlib.Core.Path.{◌≡◌, ◌∙◌}
 use native.Mathlib.Omega.{arith}
 use Rattle.run_lists.proofs.step.guards_hold.Goals as goal
-
-pub loop-i-init : goal.loop-i-init
-loop-i-init c =
-    (search rules, refl)
-
-pub guard_holds-requires : goal.guard_holds-requires
-guard_holds-requires c =
-    let d : Guard = record { clock = 0; comparison = 0; constant = 0 } in
-    omega (arith, c.requires.names.guards c.loop-i.i c.loop-i-test.true d)
-
-pub returns-then-not-guard_holds : goal.returns-then-not-guard_holds
-returns-then-not-guard_holds c =
-    let long : length c.args.values ≡ 4 = search rules in
-    sym (c.loop-i.invariant.1 ∙ guards_stop c.args.scale c.args.n c.args.delay c.args.values c.args.e (omega arith) c.requires.names c.loop-i.i _ c.loop-i-test.true c.guard_holds.ensures c.if-not-guard_holds.true)
-
-pub loop-i-preserved : goal.loop-i-preserved
-loop-i-preserved c =
-    let long : length c.args.values ≡ 4 = search rules in
-    (omega arith, c.loop-i.invariant.1 ∙ guards_on c.args.scale c.args.n c.args.delay c.args.values c.args.e (omega arith) c.requires.names c.loop-i.i _ c.loop-i-test.true c.guard_holds.ensures c.if-not-guard_holds.false)
 
 pub returns : goal.returns
 returns c =
     let long : length c.args.values ≡ 4 = search rules in
-    sym (c.loop-i.invariant.1 ∙ guards_end c.args.scale c.args.n c.args.delay c.args.values c.args.e (omega arith) c.requires.names c.loop-i.i (omega arith))
+    let d : Guard = record { clock = 0; comparison = 0; constant = 0 } in
+    let test = λ (i : ℕ). holds (get_or c.args.e.guards i d).comparison (at c.args.values (get_or c.args.e.guards i d).clock + c.args.delay) ((get_or c.args.e.guards i d).constant * c.args.scale) in
+    allb_from_all test _ _ _ c.all.ensures.ran (λ x b q k. search (rules, tests)) ∙ guards_each c.args.scale c.args.n c.args.delay c.args.values c.args.e (omega arith) c.requires.names d

@@ -1,4 +1,3 @@
-use Prim.Native.Nat.{◌≤◌, ◌-◌}
 use Rattle.automata.specs.Clocks.{each}
 use Rattle.regions.specs.Values.{padded}
 use Rattle.run_lists.specs.Step.{value_in}
@@ -6,7 +5,4 @@ use mathlib.Core.Path.{◌≡◌}
 use Rattle.run_lists.proofs.step.new_values.Given as goal
 
 abbrev pub invariant-loop-z : goal.invariant-loop-z
-invariant-loop-z l = (l.z ≤ l.n) × (l.values ≡ padded (each l.z (value_in l.step)))
-
-abbrev pub decreases-loop-z : goal.decreases-loop-z
-decreases-loop-z l = l.n - l.z
+invariant-loop-z l = l.values ≡ padded (each l.z (value_in l.step))

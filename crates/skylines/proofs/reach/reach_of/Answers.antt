@@ -12,7 +12,7 @@ update_ends-ends-requires-clause-bounded_by c =
 
 pub loop-z-preserved : goal.loop-z-preserved
 loop-z-preserved c =
-    reach_on _ _ _ _ _ _ _ _ (omega (arith, c.requires.few.few)) c.loop-z.invariant (low_ends_here c.args.clocks.count c.args.e c.loop-z.z c.loop-z-test.true _ _ _ c.update_ends-ends.ensures.low) (high_ends_here c.args.clocks.count c.args.e c.loop-z.z c.loop-z-test.true _ _ _ c.update_ends-ends.ensures.high)
+    reach_on _ _ _ _ _ _ _ _ (omega (arith, c.args.clocks.few)) c.loop-z.invariant (low_ends_here c.args.clocks.count c.args.e c.loop-z.z c.loop-z-test.true _ _ _ c.update_ends-ends.ensures.low) (high_ends_here c.args.clocks.count c.args.e c.loop-z.z c.loop-z-test.true _ _ _ c.update_ends-ends.ensures.high)
 
 pub returns : goal.returns
 returns c =

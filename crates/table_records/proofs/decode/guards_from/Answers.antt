@@ -5,12 +5,12 @@ use Rattle.table_records.proofs.decode.guards_from.Goals as goal
 
 pub loop-i-init : goal.loop-i-init
 loop-i-init c =
-    (omega arith, none_filled (search rules))
+    none_filled (search rules)
 
 pub loop-i-preserved : goal.loop-i-preserved
 loop-i-preserved c =
-    (omega arith, one_filled c.loop-i.invariant.1 _ (omega arith) c.guard_from-g.ensures)
+    one_filled c.loop-i.invariant _ (omega arith) c.guard_from.ensures
 
 pub returns : goal.returns
 returns c =
-    all_filled c.loop-i.invariant.1 c.args.count (omega arith)
+    all_filled c.loop-i.invariant c.args.count (omega arith)

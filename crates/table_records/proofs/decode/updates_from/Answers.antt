@@ -9,12 +9,12 @@ use Rattle.table_records.proofs.decode.updates_from.Goals as goal
 
 pub loop-z-init : goal.loop-z-init
 loop-z-init c =
-    (omega arith, none_filled (search rules))
+    none_filled (search rules)
 
 pub loop-z-preserved : goal.loop-z-preserved
 loop-z-preserved c =
-    (omega arith, one_filled c.loop-z.invariant.1 _ (omega arith) c.update_from-u.ensures)
+    one_filled c.loop-z.invariant _ (omega arith) c.update_from.ensures
 
 pub returns : goal.returns
 returns c =
-    all_filled c.loop-z.invariant.1 c.args.clocks (omega arith) ∙ sym (map_twice update (λ (z : ℕ). fields c.args.bytes.now (c.args.first + 5 * z)) (from 0 c.args.clocks))
+    all_filled c.loop-z.invariant c.args.clocks (omega arith) ∙ sym (map_twice update (λ (z : ℕ). fields c.args.bytes.now (c.args.first + 5 * z)) (from 0 c.args.clocks))

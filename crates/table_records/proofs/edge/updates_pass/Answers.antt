@@ -1,22 +1,13 @@
 use Prim.Native.Nat.{ℕ, ◌+◌, ◌*◌}
-use Rattle.automata.specs.Rows.{from}
+use Rattle.automata.proofs.Laws.Chains.{allb_from_all}
 use Rattle.table_files.specs.TableFile.{fields, fields_in_range}
-use Rattle.table_records.proofs.Laws.Loops.{none_tested, all_tested, one_passes, one_fails, every_map}
-use mathlib.Core.Path.{sym, ◌∙◌}
+use Rattle.table_records.proofs.Laws.Loops.{mapped_allb}
+use borrow.Author.Rules.{rules}
+use borrow.Author.Tests.{tests}
+use mathlib.Core.Path.{◌∙◌}
 use Rattle.table_records.proofs.edge.updates_pass.Goals as goal
-
-pub loop-z-init : goal.loop-z-init
-loop-z-init c =
-    none_tested
-
-pub returns-then-not-update_passes : goal.returns-then-not-update_passes
-returns-then-not-update_passes c =
-    sym (every_map (fields_in_range c.args.clocks) (λ (z : ℕ). fields c.args.bytes.now (c.args.first + 5 * z)) (from 0 c.args.clocks) ∙ one_fails c.loop-z.invariant c.loop-z-test.true (sym c.update_passes.ensures ∙ c.if-not-update_passes.true))
-
-pub loop-z-preserved : goal.loop-z-preserved
-loop-z-preserved c =
-    one_passes c.loop-z.invariant c.loop-z-test.true (sym c.update_passes.ensures ∙ c.if-not-update_passes.false)
 
 pub returns : goal.returns
 returns c =
-    sym (every_map (fields_in_range c.args.clocks) (λ (z : ℕ). fields c.args.bytes.now (c.args.first + 5 * z)) (from 0 c.args.clocks) ∙ all_tested c.loop-z.invariant c.loop-z-test.false)
+    allb_from_all (λ (z : ℕ). fields_in_range c.args.clocks (fields c.args.bytes.now (c.args.first + 5 * z))) _ _ _ c.all.ensures.ran (λ x b q k. search (rules, tests))
+    ∙ mapped_allb (fields_in_range c.args.clocks) (λ (z : ℕ). fields c.args.bytes.now (c.args.first + 5 * z)) _

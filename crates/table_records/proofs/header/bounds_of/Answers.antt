@@ -4,12 +4,12 @@ use Rattle.table_records.proofs.header.bounds_of.Goals as goal
 
 pub loop-z-init : goal.loop-z-init
 loop-z-init c =
-    (omega arith, copied_none)
+    copied_none
 
 pub loop-z-preserved : goal.loop-z-preserved
 loop-z-preserved c =
-    (omega arith, copied_one c.loop-z.invariant.1 c.loop-z-test.true (omega arith) (omega (arith, c.type_inv.bytes c.loop-z.z)))
+    copied_one c.loop-z.invariant (omega arith) (omega arith) (omega (arith, c.type_inv.bytes c.loop-z.z))
 
 pub returns : goal.returns
 returns c =
-    copied_all c.loop-z.invariant.1 (omega arith)
+    copied_all c.loop-z.invariant (omega arith)

@@ -1,18 +1,13 @@
-use Rattle.table_records.proofs.Laws.Loops.{none_tested, all_tested, one_passes, every_at}
+use Rattle.automata.proofs.Laws.Chains.{every_from_all}
+use Rattle.std.specs.Slice.Iter.{iter_rest}
+use Rattle.automata.specs.Checks.{every}
 use Rattle.table_records.specs.Header.{low}
 use borrow.Author.Rules.{rules}
-use borrow.Author.Tests.{le-leb}
-use mathlib.Core.Path.{sym, ◌∙◌}
+use borrow.Author.Tests.{tests}
+use mathlib.Core.Path.{◌≡◌, ap, ◌∙◌}
 use Rattle.table_records.proofs.header.bounds_pass.Goals as goal
-
-pub loop-z-init : goal.loop-z-init
-loop-z-init c =
-    none_tested
-
-pub loop-z-preserved : goal.loop-z-preserved
-loop-z-preserved c =
-    one_passes c.loop-z.invariant c.loop-z-test.true (le-leb _ _ (search rules))
 
 pub returns : goal.returns
 returns c =
-    sym (every_at low c.args.bytes.now 0 ∙ all_tested c.loop-z.invariant c.loop-z-test.false)
+    let e : iter_rest c.iter.result ≡ c.args.bytes.now = cc in
+    every_from_all low _ _ _ c.all.ensures.ran (λ x b q k. search (rules, tests)) ∙ ap (every low) e

@@ -1,21 +1,21 @@
-use Rattle.table_files.specs.Bytes.{LO}
-use Rattle.table_records.proofs.Laws.Locations.{location_lacks, location_flags, location_read}
-use Rattle.table_records.proofs.Laws.Parts.{record_found}
+use Rattle.table_records.proofs.Laws.Locations.{location_short, location_fails, location_read}
+use Rattle.table_records.proofs.Laws.Parts.{record_fits}
+use Rattle.table_records.proofs.Laws.Scan.{refusal}
 use native.Mathlib.Omega.{arith}
 use Rattle.table_records.proofs.location.location.Goals as goal
 
 pub returns-then-bytes-lt3 : goal.returns-then-bytes-lt3
 returns-then-bytes-lt3 c =
-    location_lacks _ _ _ _ c.record-bytes.ensures _ c.if-bytes-lt3.true c.refused.ensures
+    refusal c.at.ensures (location_short _ _ _ c.record-bytes.ensures c.if-bytes-lt3.true)
 
 pub returns-then-bytes-gt3 : goal.returns-then-bytes-gt3
 returns-then-bytes-gt3 c =
-    location_flags _ _ _ _ c.record-bytes.ensures _ c.if-bytes-lt3.false c.if-bytes-gt3.true c.refused-then-bytes-gt3.ensures
+    refusal c.at-then-bytes-gt3.ensures (location_fails _ _ _ c.record-bytes.ensures c.if-bytes-lt3.false c.if-bytes-gt3.true)
 
-pub overflow_add-at : goal.overflow_add-at
-overflow_add-at c =
-    omega (arith, (record_found _ _ 3 1 0 LO _ c.record-bytes.ensures (omega arith) c.if-bytes-lt3.false).fits)
+pub overflow_add-result : goal.overflow_add-result
+overflow_add-result c =
+    omega (arith, record_fits _ _ _ _ c.record-bytes.ensures (omega arith) c.if-bytes-lt3.false)
 
 pub returns : goal.returns
 returns c =
-    location_read _ _ _ _ c.record-bytes.ensures _ c.if-bytes-lt3.false c.if-bytes-gt3.false c.reached.ensures
+    ((_, location_read _ _ _ c.record-bytes.ensures c.if-bytes-lt3.false c.if-bytes-gt3.false), record_fits _ _ _ _ c.record-bytes.ensures (omega arith) c.if-bytes-lt3.false)

@@ -7,7 +7,7 @@ unfolding part_at
 returns-then-is_there c =
     simp (← c.is_there.ensures, c.if-is_there.true, span)
 
-pub returns : goal.returns
+pub returns-else-is_there : goal.returns-else-is_there
 unfolding part_at
-returns c =
+returns-else-is_there c =
     simp (← c.is_there.ensures, c.if-is_there.false)

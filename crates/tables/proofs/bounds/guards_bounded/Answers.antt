@@ -1,26 +1,22 @@
-use Rattle.regions.proofs.Laws.Values.{length_under}
-use Rattle.table_records.proofs.Laws.Loops.{none_tested, all_tested, one_passes, one_fails}
-use Rattle.tables.proofs.Laws.Bounds.{guards_each}
+use Rattle.automata.proofs.Laws.Chains.{every_from_all}
+use Rattle.automata.specs.Checks.{every}
+use Rattle.regions.specs.Values.{bounds_of, guard_of}
+use Rattle.regions.specs.declared.edge.Guard as guard_code
+use Rattle.std.proofs.lemmas.Grind.{common_steps}
+use Rattle.std.specs.Slice.Iter.{iter_rest}
+use Rattle.table_files.specs.Admission.{guard_bounded}
+use Rattle.table_records.proofs.Laws.Loops.{every_map}
 use borrow.Author.Rules.{rules}
-use lib.ListN.{length}
-use mathlib.Core.Path.{◌≡◌, sym, ◌∙◌}
+use borrow.Author.Tests.{tests}
 use native.Mathlib.Omega.{arith}
+use lib.ListN.{take}
+use mathlib.Core.Path.{◌≡◌, sym, ap, ◌∙◌}
 use Rattle.tables.proofs.bounds.guards_bounded.Goals as goal
-
-pub loop-i-init : goal.loop-i-init
-loop-i-init c =
-    none_tested
-
-pub returns-then-not-guard_bounded : goal.returns-then-not-guard_bounded
-returns-then-not-guard_bounded c =
-    let long : length c.args.e.guards ≡ 8 = search (rules, length_under) in
-    sym (guards_each c.args.clocks c.args.e (omega arith) ∙ one_fails c.loop-i.invariant c.loop-i-test.true (sym c.guard_bounded.ensures ∙ c.if-not-guard_bounded.true))
-
-pub loop-i-preserved : goal.loop-i-preserved
-loop-i-preserved c =
-    one_passes c.loop-i.invariant c.loop-i-test.true (sym c.guard_bounded.ensures ∙ c.if-not-guard_bounded.false)
 
 pub returns : goal.returns
 returns c =
-    let long : length c.args.e.guards ≡ 8 = search (rules, length_under) in
-    sym (guards_each c.args.clocks c.args.e (omega arith) ∙ all_tested c.loop-i.invariant c.loop-i-test.false)
+    let test = λ (g : guard_code.Guard). guard_bounded (bounds_of c.args.clocks) (guard_of g) in
+    let e : iter_rest c.iter.result ≡ take c.args.e.guard_count c.args.e.guards = grind (arith, common_steps) in
+    every_from_all test _ _ _ c.all.ensures.ran (λ x b q k. search (rules, tests))
+    ∙ ap (every test) e
+    ∙ sym (every_map (guard_bounded (bounds_of c.args.clocks)) guard_of (take c.args.e.guard_count c.args.e.guards))

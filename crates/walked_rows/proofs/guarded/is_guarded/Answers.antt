@@ -1,3 +1,4 @@
+use Rattle.listed_rows.specs.EdgesInLists.{edge_in}
 use Rattle.automata.specs.Row.{Row}
 use Rattle.automata.specs.Successors.{guardsb}
 use Rattle.listed_rows.proofs.Laws.Listed.{listed_again}
@@ -7,4 +8,4 @@ use Rattle.walked_rows.proofs.guarded.is_guarded.Goals as goal
 
 pub returns : goal.returns
 returns c =
-    c.guards_hold.ensures ∙ ap (λ (r : Row). guardsb r (edge_of c.args.clocks.count c.args.e).guards) (listed_again _ _ _ _ c.row_at.ensures)
+    c.guards_hold.ensures ∙ ap (λ (r : Row). guardsb r (edge_in c.args.edge.now).guards) (listed_again _ _ _ _ c.row.ensures)

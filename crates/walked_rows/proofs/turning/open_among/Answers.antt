@@ -4,7 +4,7 @@ use Rattle.walked_rows.proofs.turning.open_among.Goals as goal
 
 pub loop-from-init : goal.loop-from-init
 loop-from-init c =
-    turning_begins _ _ _ _ _ _ _ _ c.requires.stretch.from c.requires.taken_inside
+    turning_begins _ _ _ _ _ _ _ _ c.requires.in_source.from c.requires.taken_inside
 
 pub returns-then-held-end : goal.returns-then-held-end
 returns-then-held-end c =

@@ -1,3 +1,4 @@
+use Rattle.walked_rows.specs.Leading.{LeadsIn}
 use Rattle.automata.specs.Successors.{edge_rows}
 use Rattle.regions.specs.Values.{bounds_of, edge_of}
 use Rattle.skylines.specs.Skyline.{member}
@@ -6,4 +7,4 @@ use mathlib.Core.Path.{◌≡◌}
 use Rattle.walked_rows.proofs.walking.least_chosen.Given as goal
 
 abbrev pub invariant-loop-reach : goal.invariant-loop-reach
-invariant-loop-reach l = LeastOf (Inside (edge_rows (bounds_of l.clocks) (edge_of l.clocks.count l.e)) l.clocks.count l.list l.count) (λ k j. (member l.skyline.members k).row ≡ j) l.reach-index l.end l.least.row
+invariant-loop-reach l = LeastOf (LeadsIn l.edge) (λ k j. (member l.skyline.members k).row ≡ j) l.reach-index l.end l.least.row

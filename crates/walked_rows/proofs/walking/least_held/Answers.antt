@@ -9,9 +9,9 @@ pub loop-holder-init : goal.loop-holder-init
 loop-holder-init c =
     least_none _ _ _
 
-pub look_from-least-requires-clause-offered : goal.look_from-least-requires-clause-offered
-look_from-least-requires-clause-offered c =
-    c.requires.all_held c.loop-holder.holder-index (at c.args.slots.now c.loop-holder.holder-index - 1) (omega arith) (omega arith)
+pub look_from-least-requires : goal.look_from-least-requires
+look_from-least-requires c =
+    record { offered = c.requires.all_held c.loop-holder.holder-index (at c.args.slots.now c.loop-holder.holder-index - 1) (omega arith) (omega arith) }
 
 pub loop-holder-preserved : goal.loop-holder-preserved
 loop-holder-preserved c =

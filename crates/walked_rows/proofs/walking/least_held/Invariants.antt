@@ -1,3 +1,4 @@
+use Rattle.walked_rows.specs.Leading.{LeadsIn}
 use Prim.Native.Nat.{suc}
 use Rattle.automata.specs.Clocks.{at}
 use Rattle.automata.specs.Successors.{edge_rows}
@@ -7,4 +8,4 @@ use mathlib.Core.Path.{◌≡◌}
 use Rattle.walked_rows.proofs.walking.least_held.Given as goal
 
 abbrev pub invariant-loop-holder : goal.invariant-loop-holder
-invariant-loop-holder l = LeastOf (Inside (edge_rows (bounds_of l.clocks) (edge_of l.clocks.count l.e)) l.clocks.count l.list l.count) (λ k j. at l.slots k ≡ suc j) l.holder-index l.end l.least.row
+invariant-loop-holder l = LeastOf (LeadsIn l.edge) (λ k j. at l.slots k ≡ suc j) l.holder-index l.end l.least.row

@@ -1,15 +1,12 @@
-use Rattle.regions.proofs.Laws.ImageTests.{rank_at_top, rank_at_whole, rank_inside}
-use native.Mathlib.Omega.{arith}
+use Rattle.regions.specs.Image.{moved_rank}
+use borrow.Author.Rules.{rules}
+use borrow.Author.Tests.{tests}
 use Rattle.regions.proofs.clock_move.Move.moved_rank.Goals as goal
 
-pub returns-then-self-interval : goal.returns-then-self-interval
-returns-then-self-interval c =
-    rank_at_top c.args.self _ c.requires c.if-self-interval.true
+pub returns-then-interval-eq1 : goal.returns-then-interval-eq1
+unfolding moved_rank
+returns-then-interval-eq1 c = rw (← c.requires) (search (rules, tests))
 
-pub returns-then-interval-ne1 : goal.returns-then-interval-ne1
-returns-then-interval-ne1 c =
-    rank_at_whole c.args.self _ c.requires (omega arith) c.if-interval-ne1.true
-
-pub returns : goal.returns
-returns c =
-    rank_inside c.args.self _ c.requires (omega arith) c.if-interval-ne1.false
+pub returns-else-interval-self : goal.returns-else-interval-self
+unfolding moved_rank
+returns-else-interval-self c = rw (← c.requires) (search (rules, tests))

@@ -1,23 +1,10 @@
-use Rattle.automata.specs.Clocks.{allb}
-use Rattle.regions.proofs.Laws.Values.{allb_more, allb_fails, allb_end}
+use Rattle.automata.proofs.Laws.Chains.{allb_from_all}
+use Rattle.automata.specs.Rows.{heldb}
+use Rattle.regions.specs.Values.{bounds_of, row_of}
 use borrow.Author.Rules.{rules}
-use mathlib.Core.Path.{refl, sym, ◌∙◌}
-use native.Mathlib.Omega.{arith}
+use borrow.Author.Tests.{tests}
 use Rattle.regions.proofs.region.Region.are_held.Goals as goal
-
-pub loop-k-init : goal.loop-k-init
-unfolding allb
-loop-k-init c =
-    (search rules, refl)
-
-pub returns-then-not-is_held : goal.returns-then-not-is_held
-returns-then-not-is_held c =
-    sym (allb_fails _ _ _ c.loop-k-test.true (sym c.is_held.ensures ∙ c.if-not-is_held.true))
-
-pub loop-k-preserved : goal.loop-k-preserved
-loop-k-preserved c =
-    (omega arith, allb_more _ _ c.loop-k.invariant.1 (sym c.is_held.ensures ∙ c.if-not-is_held.false))
 
 pub returns : goal.returns
 returns c =
-    sym (allb_end _ _ _ (search rules) c.loop-k-test.false c.loop-k.invariant.1)
+    allb_from_all (heldb (bounds_of c.args.clocks) (row_of c.args.clocks.count c.args.self)) _ _ _ c.all.ensures.ran (λ x b q k. search (rules, tests))

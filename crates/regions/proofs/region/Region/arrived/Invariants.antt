@@ -9,6 +9,3 @@ abbrev pub invariant-loop-z : goal.invariant-loop-z
 invariant-loop-z l = (l.z ≤ l.n)
     × (l.intervals ≡ padded (each l.z (arrived_interval l.top_rank (row_of l.n l.self))))
     × (l.ranks ≡ padded (each l.z (arrived_rank l.top_rank (row_of l.n l.self))))
-
-abbrev pub decreases-loop-z : goal.decreases-loop-z
-decreases-loop-z l = l.n - l.z

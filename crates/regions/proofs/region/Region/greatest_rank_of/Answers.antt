@@ -1,19 +1,12 @@
-use Rattle.regions.proofs.Laws.WaitTests.{greatest_more}
+use Rattle.automata.specs.Clocks.{greatest}
+use Rattle.regions.proofs.Laws.WaitTests.{greatest_last}
+use Rattle.std.proofs.lemmas.Fn.{fold_over, slice_gives, fronts}
 use borrow.Author.Rules.{rules}
-use lib.ListN.{length}
-use mathlib.Core.Path.{◌≡◌, refl}
-use native.Mathlib.Omega.{arith}
+use mathlib.Core.Path.{◌≡◌, refl, sym, subst}
 use Rattle.regions.proofs.region.Region.greatest_rank_of.Goals as goal
-
-pub loop-z-init : goal.loop-z-init
-loop-z-init c =
-    (search rules, refl)
-
-pub loop-z-preserved : goal.loop-z-preserved
-loop-z-preserved c =
-    let long : length c.args.self.ranks ≡ 4 = search rules in
-    (omega arith, rw (greatest_more c.args.self.ranks c.loop-z.z (omega arith), ← c.loop-z.invariant.1) c.greater-g.ensures)
 
 pub returns : goal.returns
 returns c =
-    let e : c.loop-z.z ≡ c.args.count = omega arith in rw e at c.loop-z.invariant.1
+    subst (λ l. c.fold.result ≡ greatest l) c.iter.ensures.rest
+    (fold_over fronts (λ y. y.now) _ (λ ys g. g ≡ greatest ys) _ (λ ys a x b f' j k. let more = greatest_last ys x.now in search rules)
+    _ _ _ _ (slice_gives c.iter.result) refl c.fold.ensures.ran)

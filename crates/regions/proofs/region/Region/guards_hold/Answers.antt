@@ -11,27 +11,27 @@ pub loop-i-init : goal.loop-i-init
 loop-i-init c =
     (search rules, refl)
 
-pub guard_holds-requires-clause-clock_lt_count : goal.guard_holds-requires-clause-clock_lt_count
-guard_holds-requires-clause-clock_lt_count c =
+pub guard_holds-requires : goal.guard_holds-requires
+guard_holds-requires c =
     let all : length c.args.e.guards ≡ 8 = search (rules, length_under) in
-    let h = guard_clock c.args.e.guards c.args.e.guard_count (omega arith) c.loop-i.i (bounds_of c.args.clocks) c.requires.guards_in c.loop-i-test.true in
-    rw (length_first c.args.clocks.count c.args.clocks.bounds (search rules) (search rules)) at h
+    let h = guard_clock c.args.e.guards c.args.e.guard_count (omega arith) c.loop-i.i (bounds_of c.args.clocks) c.requires.guards_in (omega arith) in
+    record { clock_lt_count = rw (length_first c.args.clocks.count c.args.clocks.bounds (search rules) (search rules)) at h }
 
 pub returns-then-not-guard_holds : goal.returns-then-not-guard_holds
 returns-then-not-guard_holds c =
     let all : length c.args.e.guards ≡ 8 = search (rules, length_under) in
     sym (c.loop-i.invariant.1
-    ∙ guards_fail c.args.e.guards c.args.e.guard_count (omega arith) _ _ c.loop-i-test.true (sym c.guard_holds.ensures ∙ c.if-not-guard_holds.true))
+    ∙ guards_fail c.args.e.guards c.args.e.guard_count (omega arith) _ _ (omega arith) (sym c.guard_holds.ensures ∙ c.if-not-guard_holds.true))
 
 pub loop-i-preserved : goal.loop-i-preserved
 loop-i-preserved c =
     let all : length c.args.e.guards ≡ 8 = search (rules, length_under) in (
       omega arith,
       c.loop-i.invariant.1
-          ∙ guards_on c.args.e.guards c.args.e.guard_count (omega arith) _ _ c.loop-i-test.true (sym c.guard_holds.ensures ∙ c.if-not-guard_holds.false),
+          ∙ guards_on c.args.e.guards c.args.e.guard_count (omega arith) _ _ (omega arith) (sym c.guard_holds.ensures ∙ c.if-not-guard_holds.false),
     )
 
 pub returns : goal.returns
 returns c =
     let all : length c.args.e.guards ≡ 8 = search (rules, length_under) in
-    sym (c.loop-i.invariant.1 ∙ guards_end c.args.e.guards c.args.e.guard_count (omega arith) _ _ c.loop-i-test.false)
+    sym (c.loop-i.invariant.1 ∙ guards_end c.args.e.guards c.args.e.guard_count (omega arith) _ _ (omega arith))

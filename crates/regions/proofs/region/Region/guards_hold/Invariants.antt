@@ -6,9 +6,6 @@ use mathlib.Core.Path.{◌≡◌}
 use Rattle.regions.proofs.region.Region.guards_hold.Given as goal
 
 abbrev pub invariant-loop-i : goal.invariant-loop-i
-invariant-loop-i l = (l.i ≤ l.m)
+invariant-loop-i l = (l.i ≤ l.e.guard_count)
     × (guardsb (row_of l.clocks.count l.self) (edge_of l.clocks.count l.e).guards
     ≡ guardsb (row_of l.clocks.count l.self) (drop l.i (edge_of l.clocks.count l.e).guards))
-
-abbrev pub decreases-loop-i : goal.decreases-loop-i
-decreases-loop-i l = l.m - l.i

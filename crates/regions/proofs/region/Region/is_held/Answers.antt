@@ -1,29 +1,17 @@
-use Rattle.automata.specs.Clocks.{someb}
-use Rattle.regions.proofs.Laws.RegionTests.{held_zero, held_found, held_none}
-use Rattle.regions.proofs.Laws.Values.{at_take, someb_more}
+use Rattle.automata.proofs.Laws.Chains.{someb_from_any}
+use Rattle.automata.specs.Clocks.{at}
+use Rattle.regions.proofs.Laws.RegionTests.{held_zero, held_some}
 use borrow.Author.Rules.{rules}
-use borrow.Author.Tests.{ne_eqb}
-use mathlib.Core.Path.{refl}
-use native.Mathlib.Omega.{arith}
+use borrow.Author.Tests.{tests}
+use lib.Dec.{eqb}
+use mathlib.Core.Path.{◌∙◌}
 use Rattle.regions.proofs.region.Region.is_held.Goals as goal
 
 pub returns-then-rank-eq0 : goal.returns-then-rank-eq0
 returns-then-rank-eq0 c =
-    held_zero c.args.clocks c.args.self _ c.if-rank-eq0.true
+    search (rules, tests, held_zero c.args.clocks c.args.self)
 
-pub loop-z-init : goal.loop-z-init
-unfolding someb
-loop-z-init c =
-    (search rules, refl)
-
-pub returns-then-self-z : goal.returns-then-self-z
-returns-then-self-z c =
-    held_found c.args.clocks c.args.self (search rules) (search rules) _ _ c.loop-z-test.true c.if-self-z.true
-
-pub loop-z-preserved : goal.loop-z-preserved
-loop-z-preserved c =
-    (omega arith, someb_more _ _ c.loop-z.invariant.1 (rw (at_take _ _ _ c.loop-z-test.true) (ne_eqb _ _ c.if-self-z.false)))
-
-pub returns : goal.returns
-returns c =
-    held_none c.args.clocks c.args.self (search rules) (search rules) _ _ c.if-rank-eq0.false c.loop-z.invariant.0 c.loop-z-test.false c.loop-z.invariant.1
+pub returns-else-rank-eq0 : goal.returns-else-rank-eq0
+returns-else-rank-eq0 c =
+    someb_from_any (λ z. eqb (at c.args.self.ranks z) c.args.rank) _ _ _ c.any.ensures.ran (λ x b q k. search (rules, tests))
+    ∙ held_some c.args.clocks c.args.self c.args.clocks.few (search rules) _ c.if-rank-eq0.false

@@ -1,26 +1,13 @@
-use Rattle.automata.specs.Clocks.{allb}
+use Rattle.automata.proofs.Laws.Chains.{allb_from_all}
+use Rattle.automata.specs.Rows.{clockb}
 use Rattle.regions.proofs.Laws.RegionTests.{row_is}
-use Rattle.regions.proofs.Laws.Values.{allb_more, allb_fails, allb_end}
+use Rattle.regions.specs.Values.{bounds_of, row_of}
 use borrow.Author.Rules.{rules}
-use mathlib.Core.Path.{refl, sym, ◌∙◌}
-use native.Mathlib.Omega.{arith}
+use borrow.Author.Tests.{tests}
+use mathlib.Core.Path.{◌∙◌}
 use Rattle.regions.proofs.region.Region.is_region.Goals as goal
-
-pub loop-z-init : goal.loop-z-init
-unfolding allb
-loop-z-init c =
-    (search rules, refl)
-
-pub returns-then-not-is_clock : goal.returns-then-not-is_clock
-returns-then-not-is_clock c =
-    sym (allb_fails _ _ _ c.loop-z-test.true (sym c.is_clock.ensures ∙ c.if-not-is_clock.true))
-    ∙ row_is c.args.clocks c.args.self (search rules) (search rules) (search rules) (search rules)
-
-pub loop-z-preserved : goal.loop-z-preserved
-loop-z-preserved c =
-    (omega arith, allb_more _ _ c.loop-z.invariant.1 (sym c.is_clock.ensures ∙ c.if-not-is_clock.false))
 
 pub returns : goal.returns
 returns c =
-    sym (allb_end _ _ _ c.loop-z.invariant.0 c.loop-z-test.false c.loop-z.invariant.1)
+    allb_from_all (clockb (bounds_of c.args.clocks) (row_of c.args.clocks.count c.args.self)) _ _ _ c.all.ensures.ran (λ x b q k. search (rules, tests))
     ∙ row_is c.args.clocks c.args.self (search rules) (search rules) (search rules) (search rules)

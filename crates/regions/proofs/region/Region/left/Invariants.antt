@@ -9,6 +9,3 @@ abbrev pub invariant-loop-z : goal.invariant-loop-z
 invariant-loop-z l = (l.z ≤ l.n)
     × (l.intervals ≡ padded (each l.z (left_interval (bounds_of l.clocks) (row_of l.clocks.count l.self))))
     × (l.ranks ≡ padded (each l.z (left_rank l.grow (bounds_of l.clocks) (row_of l.clocks.count l.self))))
-
-abbrev pub decreases-loop-z : goal.decreases-loop-z
-decreases-loop-z l = l.n - l.z

@@ -11,6 +11,3 @@ invariant-loop-z l = (l.z ≤ l.n)
     × (l.intervals ≡ padded (each l.z (interval_at (bounds_of l.clocks) (edge_of l.clocks.count l.e) (row_of l.clocks.count l.self))))
     × (l.ranks ≡ padded (each l.z (rank_at (bounds_of l.clocks) (edge_of l.clocks.count l.e) (row_of l.clocks.count l.self))))
     × (allb l.z (reaches_at (bounds_of l.clocks) (edge_of l.clocks.count l.e) (row_of l.clocks.count l.self)) ≡ true)
-
-abbrev pub decreases-loop-z : goal.decreases-loop-z
-decreases-loop-z l = l.n - l.z

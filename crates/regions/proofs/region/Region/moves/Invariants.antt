@@ -9,6 +9,3 @@ use Rattle.regions.proofs.region.Region.moves.Given as goal
 
 abbrev pub invariant-loop-z : goal.invariant-loop-z
 invariant-loop-z l = (l.z ≤ l.n) × (length l.each ≡ 4) × ((w : ℕ) → w < l.z → get_or l.each w still ≡ move_of (bounds_of l.clocks) (row_of l.clocks.count l.self) w (get_or (edge_of l.clocks.count l.e).updates w idle))
-
-abbrev pub decreases-loop-z : goal.decreases-loop-z
-decreases-loop-z l = l.n - l.z

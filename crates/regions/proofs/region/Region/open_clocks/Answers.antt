@@ -16,7 +16,7 @@ loop-z-init c =
 
 pub overflow_add-total : goal.overflow_add-total
 overflow_add-total c =
-    omega (arith, open_clocks_le (bounds_of c.args.clocks) (row_of c.args.clocks.count c.args.self).intervals c.loop-z.z, c.requires.few)
+    omega (arith, open_clocks_le (bounds_of c.args.clocks) (row_of c.args.clocks.count c.args.self).intervals c.loop-z.z, c.args.clocks.few)
 
 pub loop-z-preserved : goal.loop-z-preserved
 loop-z-preserved c =

@@ -5,7 +5,4 @@ use mathlib.Core.Path.{◌≡◌}
 use Rattle.regions.proofs.region.Region.open_clocks.Given as goal
 
 abbrev pub invariant-loop-z : goal.invariant-loop-z
-invariant-loop-z l = (l.z ≤ l.n) × (l.total ≡ open_clocks (bounds_of l.clocks) (row_of l.clocks.count l.self).intervals l.z)
-
-abbrev pub decreases-loop-z : goal.decreases-loop-z
-decreases-loop-z l = l.n - l.z
+invariant-loop-z l = (l.z ≤ l.z-end) × (l.total ≡ open_clocks (bounds_of l.clocks) (row_of l.clocks.count l.self).intervals l.z)

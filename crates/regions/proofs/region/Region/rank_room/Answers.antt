@@ -15,7 +15,7 @@ loop-z-init c =
 
 pub overflow_add-total : goal.overflow_add-total
 overflow_add-total c =
-    omega (arith, rank_room_few (bounds_of c.args.clocks) (row_of c.args.clocks.count c.args.self).intervals c.args.self.ranks c.args.chosen c.loop-z.z, c.requires.few)
+    omega (arith, rank_room_few (bounds_of c.args.clocks) (row_of c.args.clocks.count c.args.self).intervals c.args.self.ranks c.args.chosen c.loop-z.z, c.args.clocks.few)
 
 pub loop-z-preserved : goal.loop-z-preserved
 loop-z-preserved c =

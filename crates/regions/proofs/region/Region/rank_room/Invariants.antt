@@ -5,7 +5,4 @@ use mathlib.Core.Path.{◌≡◌}
 use Rattle.regions.proofs.region.Region.rank_room.Given as goal
 
 abbrev pub invariant-loop-z : goal.invariant-loop-z
-invariant-loop-z l = (l.z ≤ l.n) × (l.total ≡ rank_room (bounds_of l.clocks) (row_of l.clocks.count l.self).intervals l.self.ranks l.chosen l.z)
-
-abbrev pub decreases-loop-z : goal.decreases-loop-z
-decreases-loop-z l = l.n - l.z
+invariant-loop-z l = (l.z ≤ l.z-end) × (l.total ≡ rank_room (bounds_of l.clocks) (row_of l.clocks.count l.self).intervals l.self.ranks l.chosen l.z)
