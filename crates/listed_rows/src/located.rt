@@ -1,8 +1,7 @@
 // Where the rows of a location stand in a region list.
-ghost use Rattle.std.specs.Prelude.{◌≤◌};
 ghost use Rattle.listed_rows.specs.Located.{Starts, Together, RowsIn};
 
-use crate::listed::Span;
+use crate::listed::{Span, guess};
 use crate::region_list::RegionList;
 use regions::region::Region;
 
@@ -19,14 +18,23 @@ impl RegionList<'_> {
         self.rows_below(least, 2 * self.count)
     }
 
-    // Where the rows of a location end that start at a row.
+    // Where the rows of a location end that start at a row: looked for from there on in steps that double, then by halves.
     fn rows_end(&self, start: usize, location: u8) -> usize
-        requires start_le_count { start ≤ self.now.count }
+        requires { Starts self.now.clocks.count self.now.bytes.now self.now.count location start }
         ensures { Together self.now.clocks.count self.now.bytes.now self.now.count start location result }
     {
-        (start..self.count)
-            .find(|i| self.location(*i) != location)
-            .unwrap_or(self.count)
+        let mut low = start;
+        let mut high = self.count;
+        // by hand, as in `look_up`
+        while low < high {
+            let middle = guess(low, high, start);
+            if self.location(middle) == location {
+                low = middle + 1;
+            } else {
+                high = middle;
+            }
+        }
+        low
     }
 
     // Where the rows of a location stand: they ascend, so they stand together.

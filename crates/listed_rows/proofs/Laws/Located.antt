@@ -71,6 +71,17 @@ module _ (n : ℕ) (list : List ℕ) (count : ℕ) where
           go (no g) =
               absurd (refutes (belowb (listed_row n list i) (row_of n (least_in l))) (belowb_law (listed_row n list i) (row_of n (least_in l))) (S.others i h k) (inl (omega arith)))
 
+-- from where the rows of a location start, they are there up to each of them -------------------------------------------------------------
+
+module _ (n : ℕ) (list : List ℕ) (count l start : ℕ) (S : Starts n list count l start) (a : Ascends (listed_rows n list count)) where
+  pub up_to : (m : ℕ) → m < count → (listed_row n list m).location ≡ l → (i : ℕ) → start ≤ i → i ≤ m → (listed_row n list i).location ≡ l
+  up_to m k e i h g = at_or_before (ℕ_discrete i m)
+    where
+      at_or_before : Dec (i ≡ m) → (listed_row n list i).location ≡ l
+      at_or_before (yes q) = rw q e
+      at_or_before (no q) =
+          omega (arith, e, S.others i h (omega arith), below_location (listed_row n list i) (listed_row n list m) (listed_rise n list count a i m (omega arith) k))
+
 -- the rows of a location, and no others, stand from its start to its end ------------------------------------------------------------------
 
 module _ (n : ℕ) (list : List ℕ) (count l start end : ℕ) (S : Starts n list count l start) (E : Together n list count start l end) (a : Ascends (listed_rows n list count)) where
