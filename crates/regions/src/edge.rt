@@ -1,6 +1,5 @@
 // Edges by value: guards and updates.
 // A comparison stays a number (`comparison.rt` says why).
-ghost use Rattle.std.specs.Prelude.{◌≤◌};
 
 // A clock against a constant.
 #[derive(Clone, Copy)]
@@ -26,7 +25,8 @@ pub struct Update {
     pub comparison: u8,
 }
 
-// Guards from guard_count on, and updates from the clocks' count on, say nothing.
+// Guards from guard_count on, and updates from the clocks' count on, say nothing. No count is ruled out: one above eight stands for
+// all eight guards, so that whoever reads guards reads at most as many as there are.
 #[derive(Clone, Copy)]
 pub struct Edge {
     pub source: u8,
@@ -35,5 +35,4 @@ pub struct Edge {
     pub guard_count: u8,
     pub guards: [Guard; 8],
     pub updates: [Update; 4],
-    ghost few_guards: { guard_count ≤ 8 },
 }

@@ -72,7 +72,8 @@ pub fn is_choice(n: usize, e: Edge, k: u8) -> bool
 // The edge by the sides that k chooses.
 pub fn with_sides(n: usize, e: Edge, k: u8) -> Edge
     requires { n ≤ 4 }
-    ensures { edge_of n result ≡ sided n (edge_of n e) k }
+    ensures means { edge_of n result ≡ sided n (edge_of n e) k }
+    ensures few { result.guard_count ≡ e.guard_count }
 {
     let mut updates = e.updates;
     for z in 0..n {

@@ -82,7 +82,8 @@ fn updates_from(bytes: &[u8], first: usize, clocks: usize) -> [Update; 4]
 pub fn edge_from(file: &[u8], at: usize, clocks: u8) -> Edge
     requires stands { Stands clocks file.now at }
     requires clocks_bound { clocks ≤ 4 }
-    ensures { edge_of clocks result ≡ edge_at clocks file.now at }
+    ensures means { edge_of clocks result ≡ edge_at clocks file.now at }
+    ensures few { result.guard_count ≤ 8 }
 {
     let bytes = part(file, at, 5);
     let count = bytes[4];

@@ -58,7 +58,8 @@ impl Table<'_> {
     // An edge, by value.
     pub fn edge_at(&self, number: u16) -> Edge
         requires number_lt_edges { number < self.now.head.edges }
-        ensures { edge_of self.now.head.clocks.count result ≡ edge (table_of self.now.file.now) number }
+        ensures means { edge_of self.now.head.clocks.count result ≡ edge (table_of self.now.file.now) number }
+        ensures few { result.guard_count ≤ 8 }
     {
         edge_from(self.file, self.edge_start(number), self.head.clocks.count)
     }

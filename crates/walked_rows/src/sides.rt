@@ -16,6 +16,7 @@ pub fn by_sides<'a>(edge: &EdgeInList<'a>, k: u8) -> EdgeInList<'a>
     ensures list { result.list ≡ edge.now.list }
     ensures source { result.e.source ≡ edge.now.e.source }
     ensures means { edge_in result ≡ sided edge.now.list.clocks.count (edge_in edge.now) k }
+    ensures few { result.e.guard_count ≡ edge.now.e.guard_count }
 {
     EdgeInList {
         list: edge.list,

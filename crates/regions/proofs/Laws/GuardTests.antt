@@ -1,12 +1,13 @@
 -- The test of an edge's guards as the code makes it, guard by guard: r is the row, gs the code's guards, of which the first m count.
 -- Assumes nothing.
-use Prim.Native.Nat.{ℕ, ◌+◌, ◌*◌, ◌≤◌, ◌<◌}
+use Prim.Native.Nat.{ℕ, min, ◌+◌, ◌*◌, ◌≤◌, ◌<◌}
 use native.Mathlib.Numerals.{add-one}
-use mathlib.Core.Path.{◌≡◌}
+use mathlib.Core.Path.{◌≡◌, ap}
 use mathlib.Core.Bool.{Bool, true, false}
 use mathlib.Core.List.{List, ◌∷◌, map}
 use lib.ListN.{length, get_or, take, drop}
 use lib.Seq.{drop-cons}
+use Rattle.std.proofs.lemmas.List.{take_min}
 use Rattle.automata.specs.Clocks.{at}
 use Rattle.automata.specs.Comparison.{holds}
 use Rattle.automata.specs.Row.{Row}
@@ -24,6 +25,10 @@ no_guard = record { clock = 0; comparison = 0; constant = 0 }
 -- guard i holds in the row
 abbrev pub guard_at : Row → List Guard → ℕ → Bool
 guard_at r gs i = holds (get_or gs i no_guard).comparison (at r.intervals (get_or gs i no_guard).clock) (2 * (get_or gs i no_guard).constant)
+
+-- where more than eight guards are said to count, all eight do
+pub as_many : (gs : List Guard) (m : ℕ) → length gs ≡ 8 → map guard_of (take (min m 8) gs) ≡ map guard_of (take m gs)
+as_many gs m eight = ap (map guard_of) (rw eight at (take_min m gs))
 
 module _ (gs : List Guard) (m : ℕ) (few : m ≤ length gs) (i : ℕ) where
   -- the guards that count, as the definitions have them

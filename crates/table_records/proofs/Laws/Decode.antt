@@ -43,7 +43,7 @@ module _ {n : ℕ} {file : List ℕ} {p : ℕ} (stands : Stands n file p) where
         rest_sized = ap length rest ∙ (part_there file (p + 5) size rest_fits).1 ∙ sized
 
         module _ (gs : List guard_code.Guard) (us : List update_code.Update) (guards : map guard_of (take (at b 4) gs) ≡ guards_from d (at b 4))
-            (updates : map update_of (take n us) ≡ map update (fields_from d (3 * at b 4) n)) (few : at b 4 ≤ 8) where
-          pub edge_is : edge_of n (record { source = at b 2; target = at b 3; guard_count = at b 4; guards = gs; updates = us; few_guards = few }) ≡ edge_at n file p
+            (updates : map update_of (take n us) ≡ map update (fields_from d (3 * at b 4) n)) where
+          pub edge_is : edge_of n (record { source = at b 2; target = at b 3; guard_count = at b 4; guards = gs; updates = us }) ≡ edge_at n file p
           unfolding edge_at
           edge_is = (λ i. record { source = at b 2; target = at b 3; guards = guards i; updates = updates i }) ∙ rw (rest, sized, is)

@@ -45,9 +45,9 @@ follow_edge-requires-clause-stands c =
 
 pub follow_edge-requires-clause-leaves : goal.follow_edge-requires-clause-leaves
 follow_edge-requires-clause-leaves c =
-    leaves (describes_of c.in_ok-opened.opened) c.edge_at.result c.if-opened-number.false c.edge_at.ensures c.edge_at.result.few_guards
+    leaves (describes_of c.in_ok-opened.opened) c.edge_at.result c.if-opened-number.false c.edge_at.ensures.means c.edge_at.ensures.few
 
 pub returns : goal.returns
 returns c =
     let R = rw c.in_ok-from.was at (told_by _ _ _ _ _ c.read_row.ensures c.map_err.ensures.cases) in
-    same_table c.in_ok-opened.ensures (by_edge (describes_of c.in_ok-opened.opened) c.args.row.now c.in_ok-from.from R c.args.number c.args.buffer.now (omega (arith, c.width_of.ensures)) c.edge_at.result c.if-opened-number.false c.edge_at.ensures _ _ c.follow_edge.ensures)
+    same_table c.in_ok-opened.ensures (by_edge (describes_of c.in_ok-opened.opened) c.args.row.now c.in_ok-from.from R c.args.number c.args.buffer.now (omega (arith, c.width_of.ensures)) c.edge_at.result c.if-opened-number.false c.edge_at.ensures.means _ _ c.follow_edge.ensures)

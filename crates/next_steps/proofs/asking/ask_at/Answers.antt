@@ -29,9 +29,9 @@ pub ask-requires-clause-by_index : goal.ask-requires-clause-by_index
 ask-requires-clause-by_index c =
     let D = (describes_of c.args.table.now) in
     let (j, l, m) = c.requires.by_index in
-    (j, l, c.edge_from.ensures ∙ edge_says c.args.table.now.file.now c.args.table.now.head D j l m)
+    (j, l, c.edge_from.ensures.means ∙ edge_says c.args.table.now.file.now c.args.table.now.head D j l m)
 
 pub returns : goal.returns
 returns c =
     let D = (describes_of c.args.table.now) in
-    λ j l m. c.ask.ensures j l (c.edge_from.ensures ∙ edge_says c.args.table.now.file.now c.args.table.now.head D j l m)
+    λ j l m. c.ask.ensures j l (c.edge_from.ensures.means ∙ edge_says c.args.table.now.file.now c.args.table.now.head D j l m)

@@ -19,7 +19,7 @@ edge_from-requires-clause-stands c =
 
 pub left_by-edge-requires : goal.left_by-edge-requires
 left_by-edge-requires c =
-    let s = c.edge_from.ensures ∙ edge_says c.args.table.now.file.now c.args.table.now.head (describes_of c.args.table.now) c.loop.counter c.loop-test.true c.loop.invariant.1 in record { bounded = edge_bounded c.args.table.now.file.now c.args.table.now.head (describes_of c.args.table.now) c.loop.counter c.loop-test.true c.args.list.now c.requires.clocks c.edge_from.result s }
+    let s = c.edge_from.ensures.means ∙ edge_says c.args.table.now.file.now c.args.table.now.head (describes_of c.args.table.now) c.loop.counter c.loop-test.true c.loop.invariant.1 in record { bounded = edge_bounded c.args.table.now.file.now c.args.table.now.head (describes_of c.args.table.now) c.loop.counter c.loop-test.true c.args.list.now c.requires.clocks c.edge_from.result s }
 
 pub after_edge-at-requires : goal.after_edge-at-requires
 after_edge-at-requires c =
@@ -27,7 +27,7 @@ after_edge-at-requires c =
 
 pub loop-preserved : goal.loop-preserved
 loop-preserved c =
-    let s = c.edge_from.ensures ∙ edge_says c.args.table.now.file.now c.args.table.now.head (describes_of c.args.table.now) c.loop.counter c.loop-test.true c.loop.invariant.1 in
+    let s = c.edge_from.ensures.means ∙ edge_says c.args.table.now.file.now c.args.table.now.head (describes_of c.args.table.now) c.loop.counter c.loop-test.true c.loop.invariant.1 in
     let rule = edge_rule c.args.table.now.file.now c.args.table.now.head (describes_of c.args.table.now) c.loop.counter c.loop-test.true c.args.list.now c.requires.clocks c.edge_from.result s c.left_by-edge.result c.left_by-edge.ensures.list c.left_by-edge.ensures.e in
     (edges_on (table_of c.args.table.now.file.now) _ _ _ c.args.end c.loop.counter c.loop.first c.loop.invariant.0 _ (subst (λ (P : ℕ → Type 0). FirstOpen P 0 c.loop.first c.first_by_edge-first.result) rule c.first_by_edge-first.ensures), skip_one _ _ _ c.loop.invariant.1 c.after_edge-at.ensures)
 

@@ -31,10 +31,10 @@ pub step_by-requires-clause-names : goal.step_by-requires-clause-names
 step_by-requires-clause-names c =
     let T = table_of c.args.table.now.file.now in
     let m : Move = move_of c.args.table.now.head.clocks.count c.args.step.now in
-    let same : edge_of c.args.table.now.head.clocks.count c.edge_from-e.result ≡ edge T m.number = c.edge_from-e.ensures ∙ edge_says c.args.table.now.file.now c.args.table.now.head (describes_of c.args.table.now) m.number c.requires.step_bound c.requires.start_value in
+    let same : edge_of c.args.table.now.head.clocks.count c.edge_from-e.result ≡ edge T m.number = c.edge_from-e.ensures.means ∙ edge_says c.args.table.now.file.now c.args.table.now.head (describes_of c.args.table.now) m.number c.requires.step_bound c.requires.start_value in
     let gs : length c.edge_from-e.result.guards ≡ 8 = search (rules, length-map) in
     let us : length c.edge_from-e.result.updates ≡ 4 = search (rules, length-map) in
-    names c.args.table.now.file.now c.args.table.now.head (describes_of c.args.table.now) m.number c.requires.step_bound c.edge_from-e.result same c.edge_from-e.result.few_guards gs us
+    names c.args.table.now.file.now c.args.table.now.head (describes_of c.args.table.now) m.number c.requires.step_bound c.edge_from-e.result same c.edge_from-e.ensures.few gs us
 
 pub step_by-requires-clause-step_len : goal.step_by-requires-clause-step_len
 step_by-requires-clause-step_len c =
@@ -51,13 +51,13 @@ pub returns-clause-means : goal.returns-clause-means
 unfolding carry
 returns-clause-means c =
     let m : Move = move_of c.args.table.now.head.clocks.count c.args.step.now in
-    let same : edge_of c.args.table.now.head.clocks.count c.edge_from-e.result ≡ edge (table_of c.args.table.now.file.now) m.number = c.edge_from-e.ensures ∙ edge_says c.args.table.now.file.now c.args.table.now.head (describes_of c.args.table.now) m.number c.requires.step_bound c.requires.start_value in
+    let same : edge_of c.args.table.now.head.clocks.count c.edge_from-e.result ≡ edge (table_of c.args.table.now.file.now) m.number = c.edge_from-e.ensures.means ∙ edge_says c.args.table.now.file.now c.args.table.now.head (describes_of c.args.table.now) m.number c.requires.step_bound c.requires.start_value in
     let w : c.args.before ≡ Ok c.in_ok-state.state = c.in_ok-state.was in
     rw w (c.step_by.ensures.means ∙ (λ i. step_by (same i) c.args.scale c.args.place (point_of c.args.table.now.head.clocks.count c.in_ok-state.state) m []))
 
 pub returns-clause-inside : goal.returns-clause-inside
 returns-clause-inside c =
     let m : Move = move_of c.args.table.now.head.clocks.count c.args.step.now in
-    let same : edge_of c.args.table.now.head.clocks.count c.edge_from-e.result ≡ edge (table_of c.args.table.now.file.now) m.number = c.edge_from-e.ensures ∙ edge_says c.args.table.now.file.now c.args.table.now.head (describes_of c.args.table.now) m.number c.requires.step_bound c.requires.start_value in
+    let same : edge_of c.args.table.now.head.clocks.count c.edge_from-e.result ≡ edge (table_of c.args.table.now.file.now) m.number = c.edge_from-e.ensures.means ∙ edge_says c.args.table.now.file.now c.args.table.now.head (describes_of c.args.table.now) m.number c.requires.step_bound c.requires.start_value in
     let l = target_in c.args.table.now.file.now c.args.table.now.head (describes_of c.args.table.now) m.number c.requires.step_bound c.edge_from-e.result same in
     IfOk-weaker c.step_by.result _ _ (λ s e. rw e l) c.step_by.ensures.inside

@@ -18,9 +18,9 @@ loop-z-preserved c =
     let four : length c.args.e.updates ≡ 4 = search (rules, length_under) in
     one_sided c.args.n c.args.e c.args.k c.requires four _ _ c.loop-z.invariant c.loop-z-test.true _ (c.sided_update.ensures ∙ ap (sided_update (update_of (get_or c.args.e.updates c.loop-z.z no_update))) c.is_above.ensures)
 
-pub returns : goal.returns
+pub returns-clause-means : goal.returns-clause-means
 unfolding sided
-returns c =
+returns-clause-means c =
     let four : length c.args.e.updates ≡ 4 = search (rules, length_under) in
     let w = all_sided c.args.n c.args.e c.args.k c.requires four _ _ c.loop-z.invariant c.loop-z-test.false in
     λ i. record { source = c.args.e.source; target = c.args.e.target; guards = (edge_of c.args.n c.args.e).guards; updates = w i }

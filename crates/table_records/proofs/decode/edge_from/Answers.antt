@@ -26,6 +26,6 @@ pub bounds-bytes-3 : goal.bounds-bytes-3
 bounds-bytes-3 c =
     omega (arith, first_sized c.requires.stands c.part-bytes.ensures)
 
-pub returns : goal.returns
-returns c =
-    edge_is c.requires.stands c.part-bytes.ensures c.size_of.ensures c.part-rest.ensures _ _ c.guards_from.ensures c.updates_from.ensures (few_guards c.requires.stands c.part-bytes.ensures)
+pub returns-clause-means : goal.returns-clause-means
+returns-clause-means c =
+    edge_is c.requires.stands c.part-bytes.ensures c.size_of.ensures c.part-rest.ensures _ _ c.guards_from.ensures c.updates_from.ensures

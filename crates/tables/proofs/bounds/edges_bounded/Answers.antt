@@ -14,7 +14,7 @@ edge_from-requires-clause-stands c =
 
 pub returns-in-Some : goal.returns-in-Some
 returns-in-Some c =
-    refusal c.at.ensures (one_broken _ _ _ _ _ _ c.loop-place.invariant c.loop-place-test.true c.edge_from.ensures _ (sym c.in-Some.is ∙ c.broken_rule.ensures))
+    refusal c.at.ensures (one_broken _ _ _ _ _ _ c.loop-place.invariant c.loop-place-test.true c.edge_from.ensures.means _ (sym c.in-Some.is ∙ c.broken_rule.ensures))
 
 pub after_edge-here-requires : goal.after_edge-here-requires
 after_edge-here-requires c =
@@ -22,7 +22,7 @@ after_edge-here-requires c =
 
 pub loop-place-preserved : goal.loop-place-preserved
 loop-place-preserved c =
-    one_unbroken _ _ _ _ _ _ c.loop-place.invariant c.loop-place-test.true c.edge_from.ensures (sym c.in_default.is ∙ c.broken_rule.ensures) c.after_edge-here.ensures
+    one_unbroken _ _ _ _ _ _ c.loop-place.invariant c.loop-place-test.true c.edge_from.ensures.means (sym c.in_default.is ∙ c.broken_rule.ensures) c.after_edge-here.ensures
 
 pub returns : goal.returns
 returns c =

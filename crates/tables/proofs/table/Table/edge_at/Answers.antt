@@ -11,6 +11,6 @@ pub edge_from-requires-clause-clocks_bound : goal.edge_from-requires-clause-cloc
 edge_from-requires-clause-clocks_bound c =
     c.args.self.now.head.clocks.few
 
-pub returns : goal.returns
-returns c =
-    c.edge_from.ensures ∙ edge_says c.args.self.now.file.now _ (describes_of c.args.self.now) c.args.number c.requires.number_lt_edges c.edge_start.ensures
+pub returns-clause-means : goal.returns-clause-means
+returns-clause-means c =
+    c.edge_from.ensures.means ∙ edge_says c.args.self.now.file.now _ (describes_of c.args.self.now) c.args.number c.requires.number_lt_edges c.edge_start.ensures
