@@ -175,7 +175,7 @@ fn begin_rows(table: &[u8], out: &mut [u8], records: usize) -> Result<Work, Refu
     if out.len() < 4 + row_width(head.clocks.count as usize) {
         return Err(Fault::NoRoom.at(0));
     }
-    let first = initial_row(head);
+    let first = initial_row(head.initial);
     insert(out, head.clocks, 0, 0, first);
     Ok(starting(head, first))
 }

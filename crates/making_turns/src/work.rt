@@ -85,7 +85,7 @@ impl Work {
             walking: true,
             last: Stride {
                 step: 1,
-                here: first_edge(self.head),
+                here: first_edge(self.head.clocks.count, self.head.locations),
                 ..self.last
             },
             ..self

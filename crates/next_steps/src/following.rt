@@ -75,7 +75,7 @@ pub fn follow_row(table: &Table, list: &RegionList, row: Region, last: Stride) -
     }
     let waited = Stride {
         step: 1,
-        here: first_edge(table.head),
+        here: first_edge(table.head.clocks.count, table.head.locations),
         ..last
     };
     follow_edges(table, list, row, waited)

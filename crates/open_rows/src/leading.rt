@@ -85,7 +85,7 @@ pub fn first_by_edges(table: &Table, list: &RegionList, end: usize) -> usize
 {
     let n = table.head.clocks.count;
     let mut first = end;
-    let mut at = first_edge(table.head);
+    let mut at = first_edge(n, table.head.locations);
     for _ in 0..table.head.edges {
         let edge = list.left_by(edge_from(table.file, at, n));
         first = first_by_edge(&edge, first);

@@ -36,7 +36,7 @@ fn check_rows(table: &Table, list: &[u8], count: u16) -> Answer
         bytes: list,
         count: rows,
     };
-    if !listed.has(initial_row(table.head)) {
+    if !listed.has(initial_row(table.head.initial)) {
         return Err(Fault::InitialRowMissing.at(0));
     }
     let first = first_open(table, &listed);

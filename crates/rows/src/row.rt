@@ -5,13 +5,13 @@ ghost use Rattle.automata.specs.Clocks.{at, each};
 ghost use Rattle.automata.specs.Closed.{first_row};
 ghost use Rattle.regions.specs.Values.{padded, region_of};
 ghost use Rattle.table_files.specs.Admission.{table_of};
+ghost use Rattle.table_records.specs.declared.head.Head.{Head};
 ghost use Rattle.tables.specs.Values.{Describes};
 ghost use Rattle.calls.specs.RegionFile.{row_in, row_width};
 ghost use Rattle.rows.specs.Row.{ReadsRow, byte_from};
 
 use regions::clocks::Clocks;
 use regions::region::Region;
-use table_records::head::Head;
 use table_records::record::record;
 use table_records::refusal::Fault;
 use tables::table::Table;
@@ -77,12 +77,12 @@ pub fn region_in(bytes: &[u8], n: usize) -> Region
     }
 }
 
-// The initial row of the table that the head describes: the initial location, then zeros.
-pub fn initial_row(head: Head) -> Region
-    ensures { (file : List ℕ) → Describes file head → result ≡ region_of (first_row (table_of file)) }
+// The initial row of a table that has this initial location: the location, then zeros.
+pub fn initial_row(initial: u8) -> Region
+    ensures { (file : List ℕ) (head : Head) → Describes file head → initial ≡ head.initial → result ≡ region_of (first_row (table_of file)) }
 {
     Region {
-        location: head.initial,
+        location: initial,
         intervals: [0; 4],
         ranks: [0; 4],
     }

@@ -11,7 +11,6 @@ ghost use Rattle.selection.specs.Chosen.{Offered, AllHeld, Lodges, Groups};
 use crate::choosing::reach_at;
 use listed_rows::edge_in_list::EdgeInList;
 use listed_rows::listed::Span;
-use regions::clocks::Clocks;
 use regions::comparison;
 use regions::edge::{Action, Edge, Update};
 use skylines::reach::{Reach, is_within, reach_of};
@@ -27,10 +26,11 @@ fn asks_for_one(u: Update) -> bool {
 
 // Whether an edge may have many groups: where it asks one value of several clocks, or of one that has more than eight intervals. Where it has few, a skyline
 // holds a row of each. Either answer would be right.
-pub fn has_groups(clocks: Clocks, e: Edge) -> bool {
-    let n = clocks.count as usize;
+pub fn has_groups(n: usize, bounds: [u16; 4], e: Edge) -> bool
+    requires { n ≤ 4 }
+{
     let mut asked = false;
-    for (u, bound) in e.updates[..n].iter().zip(&clocks.bounds) {
+    for (u, bound) in e.updates[..n].iter().zip(&bounds) {
         if asks_for_one(*u) {
             if asked || 3 < *bound {
                 return true;

@@ -10,7 +10,6 @@ ghost use Rattle.table_files.specs.TableFile.{guard, guard_in_range, fields, fie
 ghost use Rattle.table_records.specs.Scan.{Scanned};
 ghost use Rattle.table_records.specs.Edge.{ends_in_range, size_of, guards_from, fields_from};
 
-use crate::head::Head;
 use crate::record::{part, record, two_bytes};
 use crate::refusal::{Fault, Refusal};
 use regions::comparison::is_comparison;
@@ -144,17 +143,22 @@ fn edge_record(
     Ok(at + 5 + size)
 }
 
-// Reads the edge records from at on, of which the first comes after the header and the locations, and says where they end.
-pub fn edges(file: &[u8], at: usize, head: Head) -> Result<usize, Refusal>
+// Reads so many edge records from at on, of which the first comes after the header and the locations, and says where they end.
+pub fn edges(
+    file: &[u8],
+    at: usize,
+    clocks: u8,
+    locations: u8,
+    count: u16,
+) -> Result<usize, Refusal>
     requires at_in_bounds { at ≤ length file.now }
-    requires edges_bound { head.edges ≤ 256 }
-    ensures { Scanned file.now (records (edge_record head.clocks.count head.locations) (1 + head.locations) head.edges (drop at file.now)) result }
+    requires edges_bound { count ≤ 256 }
+    ensures { Scanned file.now (records (edge_record clocks locations) (1 + locations) count (drop at file.now)) result }
 {
-    let clocks = head.clocks.count;
-    let first = 1 + (head.locations as u16);
+    let first = 1 + (locations as u16);
     let mut here = at;
-    for place in first..first + head.edges {
-        here = edge_record(file, here, place, clocks, head.locations)?;
+    for place in first..first + count {
+        here = edge_record(file, here, place, clocks, locations)?;
     }
     Ok(here)
 }

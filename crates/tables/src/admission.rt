@@ -23,11 +23,12 @@ pub fn open(file: &[u8]) -> Result<Table<'_>, Refusal>
 {
     let head = header(file)?;
     let first = locations(file, 7 + (head.clocks.count as usize), head.locations)?;
-    let end = edges(file, first, head)?;
+    let end = edges(file, first, head.clocks.count, head.locations, head.edges)?;
     if end < file.len() {
         return Err(Fault::TableLong.at(1 + (head.locations as u16) + head.edges));
     }
-    edges_bounded(file, first, head)?;
+    let bounds = &head.clocks.bounds[..head.clocks.count as usize];
+    edges_bounded(file, first, bounds, head.locations, head.edges)?;
     Ok(Table { file, head })
 }
 

@@ -8,14 +8,13 @@ ghost use Rattle.tables.specs.Bounds.{edge_start, StartsOf};
 use crate::table::Table;
 use regions::edge::Edge;
 use table_records::decode::{after_edge, edge_from};
-use table_records::head::Head;
 use table_records::record::part;
 
 // Where the first edge's record begins: after the header and the locations.
-pub fn first_edge(head: Head) -> usize
-    ensures { result ≡ 7 + head.clocks.count + 3 * head.locations }
+pub fn first_edge(clocks: u8, locations: u8) -> usize
+    ensures { result ≡ 7 + clocks + 3 * locations }
 {
-    7 + (head.clocks.count as usize) + 3 * (head.locations as usize)
+    7 + (clocks as usize) + 3 * (locations as usize)
 }
 
 impl Table<'_> {
@@ -35,7 +34,7 @@ impl Table<'_> {
     {
         let n = self.head.clocks.count;
         let mut starts = [0u16; 256];
-        let mut here = first_edge(self.head);
+        let mut here = first_edge(n, self.head.locations);
         for k in 0..self.head.edges {
             starts[k as usize] = here as u16;
             here = after_edge(self.file, here, n);
@@ -48,9 +47,10 @@ impl Table<'_> {
         requires number_lt_edges { number < self.now.head.edges }
         ensures { result ≡ edge_start self.now.head.clocks.count self.now.head.locations self.now.file.now number }
     {
-        let mut at = first_edge(self.head);
+        let n = self.head.clocks.count;
+        let mut at = first_edge(n, self.head.locations);
         for _edge in 0..number {
-            at = after_edge(self.file, at, self.head.clocks.count);
+            at = after_edge(self.file, at, n);
         }
         at
     }

@@ -18,7 +18,8 @@ fn open_in_groups(edge: &EdgeInList, rows: Span, taken: &mut [bool; 4096]) -> us
     requires in_source { InSource edge.now rows }
     ensures { Grouped (bounds_in edge.now) (edge_in edge.now) edge.now.list.clocks.count edge.now.list.bytes.now edge.now.list.count rows.start rows.end taken.old taken.new result }
 {
-    if !has_groups(edge.list.clocks, edge.e) {
+    let clocks = edge.list.clocks;
+    if !has_groups(clocks.count as usize, clocks.bounds, edge.e) {
         return rows.end;
     }
     let mut slots = [0u16; 1024];

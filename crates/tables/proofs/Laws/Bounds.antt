@@ -5,18 +5,18 @@ use mathlib.Core.Path.{◌≡◌, refl, sym, ap, ◌∙◌}
 use mathlib.Core.Bool.{Bool, true, false, cond, ◌&&◌}
 use mathlib.Core.List.{List, [], ◌∷◌}
 use lib.ListN.{length, take, get_or, get_or-map}
-use lib.Seq.{length-take-le, get_or-take}
+use lib.Seq.{get_or-take}
 use Rattle.automata.specs.Clocks.{allb}
 use Rattle.automata.specs.Edge.{Action, Edge, idle}
 use Rattle.automata.specs.Checks.{every}
-use Rattle.regions.specs.Values.{bounds_of, action_of, update_of, edge_of}
-use Rattle.regions.specs.declared.clocks.Clocks as clocks_code
+use Rattle.regions.specs.Values.{action_of, update_of, edge_of}
 use Rattle.regions.specs.declared.edge.Action as action_code
 use Rattle.regions.specs.declared.edge.Update as update_code
 use Rattle.regions.specs.declared.edge.Edge as edge_code
 use Rattle.table_files.specs.Reading.{Read, good, bad, carry, require}
 use Rattle.table_files.specs.Admission.{guard_bounded, constant_bounded, clock_bounded, each_update, edges_bounded}
 use Rattle.std.specs.Prelude.{Option, None, Some}
+use Rattle.std.specs.List.{list_all}
 use Rattle.table_records.specs.Edge.{edge_at, after_edge, Stands}
 use Rattle.table_records.specs.Skips.{values, AllAt}
 use Rattle.tables.specs.Bounds.{broken_rule, edges_at, AllStand}
@@ -25,18 +25,22 @@ use Rattle.table_records.specs.declared.refusal.Fault.{Fault}
 use Rattle.table_records.specs.declared.refusal.Fault.TheVariants.{ConstantAboveBound, ClockBreaksBound}
 use Rattle.regions.proofs.Laws.Placing.{allb_same}
 
+-- a list's tests, one after the other
+pub all_every : {A : Type 0} (test : A → Bool) (xs : List A) → list_all test xs ≡ every test xs
+all_every test [] = refl
+all_every test (x ∷ xs) = ap (λ b. test x && b) (all_every test xs)
+
 -- what stands where an array has ended
 abbrev pub no_update : update_code.Update
 no_update = record { action = action_code.TheVariants.Keep; comparison = 0 }
 
 -- the updates, clock by clock
-pub updates_each : (k : clocks_code.Clocks) (e : edge_code.Edge) (test : List ℕ → ℕ → Action → Bool) → k.count ≤ length k.bounds
-    → allb k.count (λ (z : ℕ). test (bounds_of k) z (action_of (get_or e.updates z no_update).action)) ≡ each_update test (bounds_of k) (edge_of k.count e)
-updates_each k e test h =
-    allb_same k.count _ _
-    (λ z l. ap (λ (u : Rattle.automata.specs.Edge.Update). test (bounds_of k) z u.action)
-    (sym (get_or-map update_of (take k.count e.updates) z no_update ∙ ap update_of (get_or-take k.count e.updates z no_update l))))
-    ∙ ap (λ (n : ℕ). allb n (λ (z : ℕ). test (bounds_of k) z (get_or (edge_of k.count e).updates z idle).action)) (sym (length-take-le k.count k.bounds h))
+pub updates_each : (c : List ℕ) (e : edge_code.Edge) (test : List ℕ → ℕ → Action → Bool)
+    → allb (length c) (λ (z : ℕ). test c z (action_of (get_or e.updates z no_update).action)) ≡ each_update test c (edge_of (length c) e)
+updates_each c e test =
+    allb_same (length c) _ _
+    (λ z l. ap (λ (u : Rattle.automata.specs.Edge.Update). test c z u.action)
+    (sym (get_or-map update_of (take (length c) e.updates) z no_update ∙ ap update_of (get_or-take (length c) e.updates z no_update l))))
 
 -- the rule that an edge breaks -----------------------------------------------------------------------------------------------
 

@@ -49,14 +49,14 @@ insert-requires-clause-listed c =
 pub insert-requires-clause-row : goal.insert-requires-clause-row
 insert-requires-clause-row c =
     let D = (opened c.in_ok-opened.opened c.in_ok-opened.ensures) in
-    let e = c.initial_row-first.ensures c.args.table.now D in
+    let e = c.initial_row-first.ensures c.args.table.now c.in_ok-opened.opened.head D refl in
     let o = initial_is c.args.table.now c.in_ok-opened.opened.head D c.args.out.now _ _ (rw c.in_ok-opened.ensures at c.is_final.ensures) c.if-is_final.false in
     first_is_row c.args.table.now c.in_ok-opened.opened.head D c.args.out.now c.initial_row-first.result (first_region c.args.table.now c.in_ok-opened.opened.head D c.args.out.now c.initial_row-first.result e) o
 
 pub returns : goal.returns
 returns c =
     let D = (opened c.in_ok-opened.opened c.in_ok-opened.ensures) in
-    let e = c.initial_row-first.ensures c.args.table.now D in
+    let e = c.initial_row-first.ensures c.args.table.now c.in_ok-opened.opened.head D refl in
     let o = initial_is c.args.table.now c.in_ok-opened.opened.head D c.args.out.now _ _ (rw c.in_ok-opened.ensures at c.is_final.ensures) c.if-is_final.false in
     let room = subst (λ (t : ℕ). 4 + t ≤ length c.args.out.now) c.row_width.ensures c.if-out-row_width.false in
     λ ws sized. rw c.starting.ensures (begins c.args.table.now c.in_ok-opened.opened.head D c.args.out.now room c.initial_row-first.result (first_region c.args.table.now c.in_ok-opened.opened.head D c.args.out.now c.initial_row-first.result e) o _ c.insert.ensures c.args.records c.if-records-lt4096.false ws sized)

@@ -2,6 +2,7 @@ use Rattle.tables.proofs.Laws.Tables.{describes_of}
 use Rattle.region_lists.proofs.Laws.RegionCheck.{list_listed, list_located, rows_ascend, refused_at, refused_14, refused_15, refused_16, refused_17, all_pass}
 use Rattle.listed_rows.proofs.Laws.RegionLists.{rows_pass, rise_passes}
 use Rattle.std.proofs.lemmas.Result.{err_from_is_err_and}
+use mathlib.Core.Path.{refl}
 use Rattle.region_lists.proofs.region_list.check_rows.Goals as goal
 
 pub ascending-requires : goal.ascending-requires
@@ -40,12 +41,12 @@ invariant_of-listed c =
 
 pub returns-then-not-has : goal.returns-then-not-has
 returns-then-not-has c =
-    refused_at c.at.ensures (refused_16 c.args.table.now.file.now c.args.list.now c.args.table.now.head c.args.count (describes_of c.args.table.now) c.requires.told c.requires.list_len c.in_ok-ascending.ensures c.in_ok-none_final.ensures c.initial_row.result c.initial_row.ensures c.has.result c.has.ensures c.if-not-has.true)
+    refused_at c.at.ensures (refused_16 c.args.table.now.file.now c.args.list.now c.args.table.now.head c.args.count (describes_of c.args.table.now) c.requires.told c.requires.list_len c.in_ok-ascending.ensures c.in_ok-none_final.ensures c.initial_row.result (λ file D. c.initial_row.ensures file c.args.table.now.head D refl) c.has.result c.has.ensures c.if-not-has.true)
 
 pub returns-then-first-rows : goal.returns-then-first-rows
 returns-then-first-rows c =
-    refused_at c.at-then-first-rows.ensures (refused_17 c.args.table.now.file.now c.args.list.now c.args.table.now.head c.args.count (describes_of c.args.table.now) c.requires.told c.requires.list_len c.in_ok-ascending.ensures c.in_ok-none_final.ensures c.initial_row.result c.initial_row.ensures c.has.result c.has.ensures c.if-not-has.false c.first_open-first.result c.first_open-first.ensures c.if-first-rows.true)
+    refused_at c.at-then-first-rows.ensures (refused_17 c.args.table.now.file.now c.args.list.now c.args.table.now.head c.args.count (describes_of c.args.table.now) c.requires.told c.requires.list_len c.in_ok-ascending.ensures c.in_ok-none_final.ensures c.initial_row.result (λ file D. c.initial_row.ensures file c.args.table.now.head D refl) c.has.result c.has.ensures c.if-not-has.false c.first_open-first.result c.first_open-first.ensures c.if-first-rows.true)
 
 pub returns : goal.returns
 returns c =
-    all_pass c.args.table.now.file.now c.args.list.now c.args.table.now.head c.args.count (describes_of c.args.table.now) c.requires.told c.requires.list_len c.in_ok-ascending.ensures c.in_ok-none_final.ensures c.initial_row.result c.initial_row.ensures c.has.result c.has.ensures c.if-not-has.false c.first_open-first.result c.first_open-first.ensures c.if-first-rows.false
+    all_pass c.args.table.now.file.now c.args.list.now c.args.table.now.head c.args.count (describes_of c.args.table.now) c.requires.told c.requires.list_len c.in_ok-ascending.ensures c.in_ok-none_final.ensures c.initial_row.result (λ file D. c.initial_row.ensures file c.args.table.now.head D refl) c.has.result c.has.ensures c.if-not-has.false c.first_open-first.result c.first_open-first.ensures c.if-first-rows.false

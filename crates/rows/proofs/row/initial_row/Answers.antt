@@ -3,4 +3,4 @@ use Rattle.rows.proofs.row.initial_row.Goals as goal
 
 pub returns : goal.returns
 returns c =
-    λ file D. initial_is file c.args.head D
+    λ file head D e. rw e (initial_is file head D)

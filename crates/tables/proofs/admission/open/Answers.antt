@@ -2,6 +2,7 @@ use Rattle.tables.proofs.Laws.Tables.{is_accepted_by}
 use Rattle.std.proofs.lemmas.Result.{err_from_is_err_and}
 use Rattle.table_records.proofs.Laws.Scan.{refusal}
 use Rattle.tables.proofs.Laws.Opening.{begun, not_begun, no_locations, edges_refused, edges_stand, bytes_follow, bounds_refused, describes}
+use mathlib.Core.Path.{sym}
 use native.Mathlib.Omega.{arith}
 use Rattle.tables.proofs.admission.open.Goals as goal
 
@@ -43,14 +44,17 @@ edges_bounded-requires-clause-edges_bound c =
 
 pub edges_bounded-requires-clause-all_stand : goal.edges_bounded-requires-clause-all_stand
 edges_bounded-requires-clause-all_stand c =
-    edges_stand c.args.file.now _ (begun c.args.file.now _ c.in_ok-head.ensures) _ c.in_ok-first.ensures _ c.in_ok-end.ensures
+    let b = begun c.args.file.now _ c.in_ok-head.ensures in
+    rw b.sized at (edges_stand c.args.file.now _ b _ c.in_ok-first.ensures _ c.in_ok-end.ensures)
 
 pub returns-in_err-edges_bounded : goal.returns-in_err-edges_bounded
 returns-in_err-edges_bounded c =
     let p = err_from_is_err_and c.from_residual-in_err-edges_bounded.result c.from_residual-in_err-edges_bounded.ensures.1 in
-    rw (p.1, p.2) (bounds_refused c.args.file.now _ (begun c.args.file.now _ c.in_ok-head.ensures) _ c.in_ok-first.ensures _ c.in_ok-end.ensures (omega arith) c.in_err-edges_bounded.ensures)
+    let b = begun c.args.file.now _ c.in_ok-head.ensures in
+    rw (p.1, p.2) (bounds_refused c.args.file.now _ b _ c.in_ok-first.ensures _ c.in_ok-end.ensures (omega arith) (rw (sym b.sized) at c.in_err-edges_bounded.ensures))
 
 pub invariant_of-result : goal.invariant_of-result
 invariant_of-result c =
-    let D = describes c.args.file.now _ (begun c.args.file.now _ c.in_ok-head.ensures) _ c.in_ok-first.ensures _ c.in_ok-end.ensures (omega arith) c.in_ok-edges_bounded.ensures in
+    let b = begun c.args.file.now _ c.in_ok-head.ensures in
+    let D = describes c.args.file.now _ b _ c.in_ok-first.ensures _ c.in_ok-end.ensures (omega arith) (rw (sym b.sized) at c.in_ok-edges_bounded.ensures) in
     record { admitted = is_accepted_by c.args.file.now D.passes; bounds = D.bounds; count = D.count; locations = D.locations; initial = D.initial; edges = D.edges }

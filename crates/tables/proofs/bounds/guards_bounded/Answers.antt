@@ -1,26 +1,23 @@
-use Prim.Native.Nat.{min}
-use Rattle.automata.proofs.Laws.Chains.{every_from_all}
-use Rattle.automata.specs.Checks.{every}
-use Rattle.regions.proofs.Laws.GuardTests.{as_many}
-use Rattle.regions.specs.Values.{bounds_of, guard_of}
+use Rattle.regions.specs.Values.{guard_of}
 use Rattle.regions.specs.declared.edge.Guard as guard_code
-use Rattle.std.proofs.lemmas.Grind.{common_steps}
+use Rattle.std.proofs.lemmas.Iterator.{YieldsList-from_slice, YieldsList-from_take}
+use Rattle.std.proofs.lemmas.Iterator.Search.{all_from_yields_List}
 use Rattle.std.specs.Slice.Iter.{iter_rest}
 use Rattle.table_files.specs.Admission.{guard_bounded}
 use Rattle.table_records.proofs.Laws.Loops.{every_map}
+use Rattle.tables.proofs.Laws.Bounds.{all_every}
 use borrow.Author.Rules.{rules}
 use borrow.Author.Tests.{tests}
-use native.Mathlib.Omega.{arith}
-use lib.ListN.{length, take, length-map}
+use lib.ListN.{take}
 use mathlib.Core.Path.{◌≡◌, sym, ap, ◌∙◌}
 use Rattle.tables.proofs.bounds.guards_bounded.Goals as goal
 
 pub returns : goal.returns
 returns c =
-    let test = λ (g : guard_code.Guard). guard_bounded (bounds_of c.args.clocks) (guard_of g) in
-    let eight : length c.args.e.guards ≡ 8 = search (rules, length-map) in
-    let e : iter_rest c.iter.result ≡ take (min c.args.e.guard_count 8) c.args.e.guards = grind (arith, common_steps) in
-    every_from_all test _ _ _ c.all.ensures.ran (λ x b q k. search (rules, tests))
-    ∙ ap (every test) e
-    ∙ sym (every_map (guard_bounded (bounds_of c.args.clocks)) guard_of (take (min c.args.e.guard_count 8) c.args.e.guards))
-    ∙ ap (every (guard_bounded (bounds_of c.args.clocks))) (as_many c.args.e.guards c.args.e.guard_count eight)
+    let n = c.args.e.now.guard_count in
+    let guards = c.args.e.now.guards in
+    let test = λ (g : guard_code.Guard). guard_bounded c.args.bounds.now (guard_of g) in
+    let e : iter_rest c.iter.result ≡ guards = c.iter.ensures.rest in
+    all_from_yields_List test _ _ _ c.all.ensures.ran (YieldsList-from_take n (YieldsList-from_slice guards (ap iter_rest c.take.ensures.source ∙ e)) c.take.ensures.count) (λ x b q k. search (rules, tests))
+    ∙ all_every test (take n guards)
+    ∙ sym (every_map (guard_bounded c.args.bounds.now) guard_of (take n guards))
