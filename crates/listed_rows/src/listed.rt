@@ -57,7 +57,7 @@ pub fn shared_with(list: &[u8], n: usize, i: usize, wanted: Region) -> usize
 }
 
 // Whether row i comes before a region, where it is known how many of their numbers are the same.
-pub fn comes_below(list: &[u8], n: usize, i: usize, wanted: Region, same: usize) -> bool
+pub(crate) fn comes_below(list: &[u8], n: usize, i: usize, wanted: Region, same: usize) -> bool
     requires n_bound { n ≤ 4 }
     requires has_row { HasRow n list.now i }
     requires same_value { same ≡ shared (numbers (listed_row n list.now i)) (numbers (row_of n wanted)) }
@@ -87,7 +87,7 @@ pub fn row_is_beside(list: &[u8], n: usize, i: usize, wanted: Region) -> bool
 
 // Where to look next between low and high: at the hint, then from it in steps that double, then by halves. What is looked up mostly stands
 // near what was looked up before.
-pub fn guess(low: usize, high: usize, hint: usize) -> usize
+pub(crate) fn guess(low: usize, high: usize, hint: usize) -> usize
     requires { low < high }
     ensures { (low ≤ result) × (result < high) }
 {

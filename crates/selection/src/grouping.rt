@@ -3,13 +3,14 @@
 // Bounds of a number stay clauses here: the check finds them at each call, and a type around the number would be opened at each use.
 // What joins two parameters stays a clause here: a type of both would be made anew for each call, and taken apart in it.
 ghost use Rattle.std.specs.Prelude.{◌≡◌, false, ℕ, ◌≤◌, ◌<◌, length};
+ghost use Rattle.regions.specs.Values.{bounds_of, edge_of};
 ghost use Rattle.skylines.specs.Reach.{ReachOf};
-ghost use Rattle.listed_rows.specs.RegionLists.{nth_row};
-ghost use Rattle.listed_rows.specs.EdgesInLists.{bounds_in, edge_in, InSource};
+ghost use Rattle.listed_rows.specs.Listed.{listed_row};
+ghost use Rattle.listed_rows.specs.Located.{Stretch};
 ghost use Rattle.selection.specs.Chosen.{Offered, AllHeld, Lodges, Groups};
 
 use crate::choosing::reach_at;
-use listed_rows::edge_in_list::EdgeInList;
+use listed_rows::edge_in_list::EdgeOverRows;
 use listed_rows::listed::Span;
 use regions::comparison;
 use regions::edge::{Action, Edge, Update};
@@ -56,20 +57,20 @@ fn slot(reach: Reach) -> usize
 
 // Offers row i, of which the reach is given, to slot k, and tells whether it is taken: if that holds none, or one that it leads no further from, or one that
 // leads no further than it and makes room. Else the slot stays as it is.
-fn lodge_in(edge: &EdgeInList, i: usize, own: Reach, slots: &mut [u16; 1024], k: usize) -> bool
-    requires offered { Offered (edge_in edge.now) edge.now.list.clocks.count edge.now.list.bytes.now 0 edge.now.list.count i }
-    requires reach_of { ReachOf (bounds_in edge.now) (edge_in edge.now) (nth_row edge.now.list i) i own }
-    requires all_held { AllHeld (edge_in edge.now) edge.now.list.clocks.count edge.now.list.bytes.now 0 edge.now.list.count slots.old }
+fn lodge_in(edge: &EdgeOverRows, i: usize, own: Reach, slots: &mut [u16; 1024], k: usize) -> bool
+    requires offered { Offered (edge_of edge.now.clocks.count edge.now.e) edge.now.clocks.count edge.now.bytes.now 0 edge.now.count i }
+    requires reach_of { ReachOf (bounds_of edge.now.clocks) (edge_of edge.now.clocks.count edge.now.e) (listed_row edge.now.clocks.count edge.now.bytes.now i) i own }
+    requires all_held { AllHeld (edge_of edge.now.clocks.count edge.now.e) edge.now.clocks.count edge.now.bytes.now 0 edge.now.count slots.old }
     requires k_bound { k < 1024 }
-    ensures lodges { (lo hi : ℕ) → lo ≤ i → i < hi → hi ≤ edge.now.list.count → AllHeld (edge_in edge.now) edge.now.list.clocks.count edge.now.list.bytes.now lo hi slots.old → Lodges (bounds_in edge.now) (edge_in edge.now) edge.now.list.clocks.count edge.now.list.bytes.now lo hi i false slots.old slots.new result }
+    ensures lodges { (lo hi : ℕ) → lo ≤ i → i < hi → hi ≤ edge.now.count → AllHeld (edge_of edge.now.clocks.count edge.now.e) edge.now.clocks.count edge.now.bytes.now lo hi slots.old → Lodges (bounds_of edge.now.clocks) (edge_of edge.now.clocks.count edge.now.e) edge.now.clocks.count edge.now.bytes.now lo hi i false slots.old slots.new result }
     ensures left { result ≡ false → slots.new ≡ slots.old }
 {
     let holder = slots[k];
     if holder != 0 {
         let j = holder - 1;
-        let clocks = edge.list.clocks;
+        let clocks = edge.clocks;
         let n = clocks.count as usize;
-        let other = reach_of(clocks, edge.e, edge.list.row(j as usize), j as u32);
+        let other = reach_of(clocks, edge.e, edge.row(j as usize), j as u32);
         if is_within(n, own, other) {
             return true;
         }
@@ -83,11 +84,11 @@ fn lodge_in(edge: &EdgeInList, i: usize, own: Reach, slots: &mut [u16; 1024], k:
 
 // Offers row i to the slots of its group, one after the other, and tells whether it is taken. One that is taken already, or from where the edge cannot be
 // taken, needs no slot.
-fn lodge(edge: &EdgeInList, i: usize, already: bool, slots: &mut [u16; 1024]) -> bool
-    requires i_lt_count { i < edge.now.list.count }
-    requires i_value { (nth_row edge.now.list i).location ≡ edge.now.e.source }
-    requires all_held { AllHeld (edge_in edge.now) edge.now.list.clocks.count edge.now.list.bytes.now 0 edge.now.list.count slots.old }
-    ensures { (lo hi : ℕ) → lo ≤ i → i < hi → hi ≤ edge.now.list.count → AllHeld (edge_in edge.now) edge.now.list.clocks.count edge.now.list.bytes.now lo hi slots.old → Lodges (bounds_in edge.now) (edge_in edge.now) edge.now.list.clocks.count edge.now.list.bytes.now lo hi i already slots.old slots.new result }
+fn lodge(edge: &EdgeOverRows, i: usize, already: bool, slots: &mut [u16; 1024]) -> bool
+    requires i_lt_count { i < edge.now.count }
+    requires i_value { (listed_row edge.now.clocks.count edge.now.bytes.now i).location ≡ edge.now.e.source }
+    requires all_held { AllHeld (edge_of edge.now.clocks.count edge.now.e) edge.now.clocks.count edge.now.bytes.now 0 edge.now.count slots.old }
+    ensures { (lo hi : ℕ) → lo ≤ i → i < hi → hi ≤ edge.now.count → AllHeld (edge_of edge.now.clocks.count edge.now.e) edge.now.clocks.count edge.now.bytes.now lo hi slots.old → Lodges (bounds_of edge.now.clocks) (edge_of edge.now.clocks.count edge.now.e) edge.now.clocks.count edge.now.bytes.now lo hi i already slots.old slots.new result }
 {
     if already {
         return true;
@@ -104,10 +105,10 @@ fn lodge(edge: &EdgeInList, i: usize, already: bool, slots: &mut [u16; 1024]) ->
 
 // Offers the rows that are not taken, one after the other. The edge leads no further from any that is taken then, and was not before, than from one that a
 // slot holds.
-pub fn lodge_all(edge: &EdgeInList, rows: Span, taken: &mut [bool; 4096], slots: &mut [u16; 1024])
-    requires in_source { InSource edge.now rows }
-    requires all_held { AllHeld (edge_in edge.now) edge.now.list.clocks.count edge.now.list.bytes.now rows.start rows.end slots.old }
-    ensures { Groups (bounds_in edge.now) (edge_in edge.now) edge.now.list.clocks.count edge.now.list.bytes.now rows.start rows.end taken.old taken.new slots.old slots.new }
+pub fn lodge_all(edge: &EdgeOverRows, rows: Span, taken: &mut [bool; 4096], slots: &mut [u16; 1024])
+    requires in_source { Stretch edge.now.clocks.count edge.now.bytes.now edge.now.count edge.now.e.source rows.start rows.end }
+    requires all_held { AllHeld (edge_of edge.now.clocks.count edge.now.e) edge.now.clocks.count edge.now.bytes.now rows.start rows.end slots.old }
+    ensures { Groups (bounds_of edge.now.clocks) (edge_of edge.now.clocks.count edge.now.e) edge.now.clocks.count edge.now.bytes.now rows.start rows.end taken.old taken.new slots.old slots.new }
 {
     for i in rows.start..rows.end {
         taken[i] = lodge(edge, i, taken[i], slots);

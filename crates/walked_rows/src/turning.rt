@@ -23,9 +23,10 @@ fn open_in_groups(edge: &EdgeInList, rows: Span, taken: &mut [bool; 4096]) -> us
         return rows.end;
     }
     let mut slots = [0u16; 1024];
-    lodge_all(edge, rows, taken, &mut slots);
+    let over = edge.over_rows();
+    lodge_all(&over, rows, taken, &mut slots);
     // once more: what a slot holds now may lead further than rows that were offered before it
-    lodge_all(edge, rows, taken, &mut slots);
+    lodge_all(&over, rows, taken, &mut slots);
     least_held(edge, &slots, rows.end)
 }
 
@@ -37,6 +38,7 @@ pub fn open_among(edge: &EdgeInList, rows: Span, taken: &mut [bool; 4096]) -> us
     requires taken_inside { TakenIn edge.now rows taken.old }
     ensures { SomeOpen (LeadsIn edge.now) rows.start rows.end result }
 {
+    let over = edge.over_rows();
     let mut skyline = Skyline::new();
     let end = rows.end;
     let mut from = rows.start;
@@ -51,8 +53,8 @@ pub fn open_among(edge: &EdgeInList, rows: Span, taken: &mut [bool; 4096]) -> us
         if again < end {
             return again;
         }
-        let next = choose(edge, left, taken, &mut skyline);
-        let open = least_chosen(edge, &skyline, end);
+        let next = choose(&over, left, taken, &mut skyline);
+        let open = least_chosen(edge, &skyline.members, skyline.size, end);
         if open < end {
             return open;
         }

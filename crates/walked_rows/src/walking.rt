@@ -12,7 +12,7 @@ ghost use Rattle.walked_rows.specs.Leading.{LeadsIn};
 
 use inclusion::inside::leads_inside;
 use listed_rows::edge_in_list::EdgeInList;
-use skylines::skyline::Skyline;
+use skylines::reach::Reach;
 
 // The least row found so far from which the edge leads out of the list, and where a row was looked up last.
 #[derive(Clone, Copy)]
@@ -47,15 +47,16 @@ fn look_from(edge: &EdgeInList, i: usize, least: Least) -> Least
 }
 
 // The least row before end, of those that were chosen, from which the edge leads out of the list, or end.
-pub fn least_chosen(edge: &EdgeInList, skyline: &Skyline, end: usize) -> usize
-    requires all_sit { AllSit (bounds_in edge.now) (edge_in edge.now) edge.now.list.clocks.count edge.now.list.bytes.now 0 edge.now.list.count skyline.now.members skyline.now.size }
-    ensures { LeastOf (LeadsIn edge.now) (λ k j. (member skyline.now.members k).row ≡ j) skyline.now.size end result }
+pub fn least_chosen(edge: &EdgeInList, members: &[Reach], size: usize, end: usize) -> usize
+    requires size_in_bounds { size ≤ length members.now }
+    requires all_sit { AllSit (bounds_in edge.now) (edge_in edge.now) edge.now.list.clocks.count edge.now.list.bytes.now 0 edge.now.list.count members.now size }
+    ensures { LeastOf (LeadsIn edge.now) (λ k j. (member members.now k).row ≡ j) size end result }
 {
     let mut least = Least {
         row: end,
         hint: 2 * edge.list.count,
     };
-    for reach in &skyline.members[..skyline.size] {
+    for reach in &members[..size] {
         least = look_from(edge, reach.row as usize, least);
     }
     least.row

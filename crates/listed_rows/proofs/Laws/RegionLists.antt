@@ -16,6 +16,7 @@ use Rattle.regions.specs.declared.clocks.Clocks.{Clocks}
 use Rattle.regions.proofs.Laws.Values.{few_of}
 use Rattle.listed_rows.specs.Listed.{listed_row, listed_rows, Listed}
 use Rattle.listed_rows.specs.RegionLists.{nth_row, all_rows}
+use Rattle.listed_rows.specs.declared.edge_in_list.EdgeOverRows.{EdgeOverRows}
 use Rattle.listed_rows.specs.declared.region_list.RegionList.{RegionList}
 use Rattle.listed_rows.proofs.Laws.Listed.{listed_rise}
 
@@ -42,6 +43,17 @@ module _ (l : RegionList) where
   pub ascends_of : Ascends (all_rows l)
   unfolding listed_rows
   ascends_of = ascends_from (nth_row l) 0 l.count (λ i _ h. (belowb_law (nth_row l i) (nth_row l (suc i))).0 (l.rise i (omega arith)))
+
+-- what the type says of rows in any order
+pub listed_over : (k : EdgeOverRows) → Listed k.clocks k.bytes.now k.count
+listed_over k = record {
+  few = few_of k.clocks;
+  sized = k.sized;
+  low = k.low;
+  short = k.short;
+  room = k.room;
+  are_rows = λ i h. (isrowb_law (bounds_of k.clocks) (listed_row k.clocks.count k.bytes.now i)).0 (k.are_rows i h);
+}
 
 module _ (k : Clocks) (list : List ℕ) (count : ℕ) where
   pub rows_pass : Listed k list count → (i : ℕ) → i < count → isrowb (bounds_of k) (listed_row k.count list i) ≡ true

@@ -8,7 +8,7 @@ loop-i-init c =
 
 pub loop-i-preserved : goal.loop-i-preserved
 loop-i-preserved c =
-    choosing_on _ _ _ _ _ _ _ _ _ _ _ _ c.loop-i.invariant c.loop-i-test.true (omega (arith, c.requires.in_source.within, c.args.edge.now.list.short)) _ _ _ (c.offer-seated.ensures _ _ c.loop-i.invariant.from c.loop-i-test.true c.requires.in_source.within c.loop-i.invariant.sit) _ c.first_left-left.ensures
+    choosing_on _ _ _ _ _ _ _ _ _ _ _ _ c.loop-i.invariant c.loop-i-test.true (omega (arith, c.requires.in_source.within, c.args.edge.now.short)) _ _ _ (c.offer-seated.ensures _ _ c.loop-i.invariant.from c.loop-i-test.true c.requires.in_source.within c.loop-i.invariant.sit) _ c.first_left-left.ensures
 
 pub returns : goal.returns
 returns c =

@@ -12,7 +12,7 @@ lodge-requires-clause-all_held c =
 
 pub loop-i-preserved : goal.loop-i-preserved
 loop-i-preserved c =
-    grouping_on _ _ _ _ _ _ _ _ _ _ _ c.loop-i.invariant c.loop-i-test.true (omega (arith, c.requires.in_source.within, c.args.edge.now.list.short)) _ _ (c.lodge.ensures _ _ c.loop-i.invariant.from c.loop-i-test.true c.requires.in_source.within c.loop-i.invariant.held)
+    grouping_on _ _ _ _ _ _ _ _ _ _ _ c.loop-i.invariant c.loop-i-test.true (omega (arith, c.requires.in_source.within, c.args.edge.now.short)) _ _ (c.lodge.ensures _ _ c.loop-i.invariant.from c.loop-i-test.true c.requires.in_source.within c.loop-i.invariant.held)
 
 pub returns : goal.returns
 returns c =

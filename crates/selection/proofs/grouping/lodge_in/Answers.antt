@@ -1,5 +1,5 @@
 use borrow.Author.Rules.{rules}
-use Rattle.listed_rows.proofs.Laws.RegionLists.{listed_of}
+use Rattle.listed_rows.proofs.Laws.RegionLists.{listed_over}
 use Prim.Native.Nat.{◌-◌}
 use Rattle.automata.specs.Clocks.{at}
 use Rattle.listed_rows.proofs.Laws.Listed.{listed_again}
@@ -15,7 +15,7 @@ row-requires c =
 
 pub returns-then-is_within-clause-lodges : goal.returns-then-is_within-clause-lodges
 returns-then-is_within-clause-lodges c =
-    λ lo hi from to in_list held. lodges_covered _ _ _ _ lo hi _ _ _ held c.args.edge.now.list.sized c.args.edge.now.list.clocks.few (λ j h. (listed_of c.args.edge.now.list).are_rows j (omega arith)) from to c.requires.offered.located c.requires.offered.guarded _ c.requires.reach_of _ c.requires.k_bound (at c.args.slots.now c.args.k - 1) (omega arith) _ (rw (listed_again _ _ _ _ c.row.ensures) at c.reach_of-other.ensures) (sym c.is_within.ensures ∙ c.if-is_within.true)
+    λ lo hi from to in_list held. lodges_covered _ _ _ _ lo hi _ _ _ held c.args.edge.now.sized c.args.edge.now.clocks.few (λ j h. (listed_over c.args.edge.now).are_rows j (omega arith)) from to c.requires.offered.located c.requires.offered.guarded _ c.requires.reach_of _ c.requires.k_bound (at c.args.slots.now c.args.k - 1) (omega arith) _ (rw (listed_again _ _ _ _ c.row.ensures) at c.reach_of-other.ensures) (sym c.is_within.ensures ∙ c.if-is_within.true)
 
 pub returns-then-not-is_within-clause-lodges : goal.returns-then-not-is_within-clause-lodges
 returns-then-not-is_within-clause-lodges c =
@@ -24,6 +24,6 @@ returns-then-not-is_within-clause-lodges c =
 pub returns-clause-lodges : goal.returns-clause-lodges
 returns-clause-lodges c =
     λ lo hi from to in_list held. elim c.if-holder-ne0.branch [
-      | then-holder-ne0+else-is_within+else-not-is_within w ↦ lodges_instead _ _ _ _ lo hi _ _ _ held c.args.edge.now.list.sized c.args.edge.now.list.clocks.few (λ j h. (listed_of c.args.edge.now.list).are_rows j (omega arith)) from to c.requires.offered.located c.requires.offered.guarded _ c.requires.reach_of _ c.requires.k_bound (at c.args.slots.now c.args.k - 1) (omega arith) _ (rw (listed_again _ _ _ _ w.row.ensures) at w.reach_of-other.ensures) (sym w.is_within-then-holder-ne0.ensures ∙ w.if-not-is_within.false) (search rules)
-      | else-holder-ne0 w ↦ lodges_free _ _ _ _ lo hi _ _ _ held c.args.edge.now.list.sized c.args.edge.now.list.clocks.few (λ j h. (listed_of c.args.edge.now.list).are_rows j (omega arith)) from to c.requires.offered.located c.requires.offered.guarded _ c.requires.reach_of _ c.requires.k_bound (search rules) w.if-holder-ne0.false
+      | then-holder-ne0+else-is_within+else-not-is_within w ↦ lodges_instead _ _ _ _ lo hi _ _ _ held c.args.edge.now.sized c.args.edge.now.clocks.few (λ j h. (listed_over c.args.edge.now).are_rows j (omega arith)) from to c.requires.offered.located c.requires.offered.guarded _ c.requires.reach_of _ c.requires.k_bound (at c.args.slots.now c.args.k - 1) (omega arith) _ (rw (listed_again _ _ _ _ w.row.ensures) at w.reach_of-other.ensures) (sym w.is_within-then-holder-ne0.ensures ∙ w.if-not-is_within.false) (search rules)
+      | else-holder-ne0 w ↦ lodges_free _ _ _ _ lo hi _ _ _ held c.args.edge.now.sized c.args.edge.now.clocks.few (λ j h. (listed_over c.args.edge.now).are_rows j (omega arith)) from to c.requires.offered.located c.requires.offered.guarded _ c.requires.reach_of _ c.requires.k_bound (search rules) w.if-holder-ne0.false
     ]

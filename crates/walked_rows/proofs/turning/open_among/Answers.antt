@@ -16,11 +16,11 @@ returns-then-again-end c =
 
 pub returns-then-open-end : goal.returns-then-open-end
 returns-then-open-end c =
-    chosen_found _ _ _ _ _ _ _ _ _ _ (turning_grouped _ _ _ _ _ _ _ _ _ _ (turning_grouped _ _ _ _ _ _ _ _ _ _ c.loop-from.invariant _ c.open_in_groups-held.ensures c.if-held-end.false) _ c.open_in_groups-again.ensures c.if-again-end.false) _ _ _ c.choose-next.ensures _ c.least_chosen-open.ensures c.if-open-end.true
+    chosen_found _ _ _ _ _ _ _ _ _ _ (turning_grouped _ _ _ _ _ _ _ _ _ _ (turning_grouped _ _ _ _ _ _ _ _ _ _ c.loop-from.invariant _ c.open_in_groups-held.ensures c.if-held-end.false) _ c.open_in_groups-again.ensures c.if-again-end.false) _ _ _ (rw (c.over_rows-over.ensures.clocks, c.over_rows-over.ensures.bytes, c.over_rows-over.ensures.e) at c.choose-next.ensures) _ c.least_chosen-open.ensures c.if-open-end.true
 
 pub loop-from-preserved : goal.loop-from-preserved
 loop-from-preserved c =
-    turning_on _ _ _ _ _ _ _ _ _ _ (turning_grouped _ _ _ _ _ _ _ _ _ _ (turning_grouped _ _ _ _ _ _ _ _ _ _ c.loop-from.invariant _ c.open_in_groups-held.ensures c.if-held-end.false) _ c.open_in_groups-again.ensures c.if-again-end.false) _ _ _ c.choose-next.ensures _ c.least_chosen-open.ensures c.loop-from-test.true c.if-open-end.false
+    turning_on _ _ _ _ _ _ _ _ _ _ (turning_grouped _ _ _ _ _ _ _ _ _ _ (turning_grouped _ _ _ _ _ _ _ _ _ _ c.loop-from.invariant _ c.open_in_groups-held.ensures c.if-held-end.false) _ c.open_in_groups-again.ensures c.if-again-end.false) _ _ _ (rw (c.over_rows-over.ensures.clocks, c.over_rows-over.ensures.bytes, c.over_rows-over.ensures.e) at c.choose-next.ensures) _ c.least_chosen-open.ensures c.loop-from-test.true c.if-open-end.false
 
 pub returns : goal.returns
 returns c =

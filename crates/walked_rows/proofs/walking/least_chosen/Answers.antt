@@ -12,5 +12,5 @@ loop-reach-init c =
 
 pub loop-reach-preserved : goal.loop-reach-preserved
 loop-reach-preserved c =
-    let here = get_or-take c.args.skyline.now.size c.args.skyline.now.members c.loop-reach.reach-index no_reach (omega (arith, length-take c.args.skyline.now.size c.args.skyline.now.members)) in
+    let here = get_or-take c.args.size c.args.members.now c.loop-reach.reach-index no_reach (omega (arith, length-take c.args.size c.args.members.now)) in
     least_on _ _ _ _ _ c.loop-reach.invariant _ _ refl (λ j q. sym q) (rw here at c.look_from-least.ensures)

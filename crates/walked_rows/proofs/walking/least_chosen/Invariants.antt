@@ -7,4 +7,4 @@ use mathlib.Core.Path.{◌≡◌}
 use Rattle.walked_rows.proofs.walking.least_chosen.Given as goal
 
 abbrev pub invariant-loop-reach : goal.invariant-loop-reach
-invariant-loop-reach l = LeastOf (LeadsIn l.edge) (λ k j. (member l.skyline.members k).row ≡ j) l.reach-index l.end l.least.row
+invariant-loop-reach l = LeastOf (LeadsIn l.edge) (λ k j. (member l.members k).row ≡ j) l.reach-index l.end l.least.row
