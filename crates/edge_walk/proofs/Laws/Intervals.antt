@@ -15,7 +15,7 @@ use Rattle.regions.specs.Order.{put}
 use Rattle.regions.specs.declared.clock_move.Move.{Move}
 use Rattle.regions.specs.declared.region.Region.{Region}
 use Rattle.edge_walk.specs.Choice.{Ready}
-use Rattle.edge_walk.specs.Stand.{start}
+use Rattle.edge_walk.specs.Stand.{start, back}
 use Rattle.edge_walk.specs.Intervals.{Chosen}
 use Rattle.edge_walk.specs.declared.search.Search.{Search}
 use Rattle.edge_walk.specs.declared.stand.Stand.{Stand}
@@ -26,6 +26,15 @@ pub chosen_start : (s : Search) (l : ℕ) → Chosen s (start l)
 chosen_start s l = record { within = omega arith; fresh = λ e. refl; in_range = λ z h. absurd (omega arith); permitted = λ z h. absurd (omega arith) }
 
 module _ (s : Search) (a : Stand) (c : Chosen s a) where
+  -- one less is
+  pub chosen_back : 0 < a.depth → (b : Stand) → b ≡ back s.clocks.count a → Chosen s b
+  chosen_back h b e = rw e (record {
+    within = omega (arith, c.within);
+    fresh = λ d. absurd (omega (arith, c.within));
+    in_range = λ z l. c.in_range z (omega arith);
+    permitted = λ z l. c.permitted z (omega arith);
+  })
+
   -- one more is
   module _ (ready : Ready s) (four : length a.part.intervals ≡ 4) (h : 0 < a.depth) (l : a.depth ≤ s.clocks.count) (k : ℕ) where
     abbrev m : Move

@@ -8,7 +8,7 @@ use mathlib.Core.List.{List, [], ◌∷◌}
 use lib.ListN.{length, get_or}
 use lib.Dec.{eqb}
 use Rattle.automata.specs.Clocks.{at, allb, greatest}
-use Rattle.automata.specs.Row.{Row, IsRow}
+use Rattle.automata.specs.Row.{Row, IsRow, Below}
 use Rattle.automata.specs.Edge.{Action, keep, constant, clock, Update, idle, Edge, Bounded}
 use Rattle.automata.specs.Closed.{Mem}
 use Rattle.automata.specs.Rows.{select, rows_at}
@@ -24,8 +24,9 @@ use Rattle.regions.specs.declared.edge.Edge as edge_code
 use Rattle.regions.specs.declared.placing.Moves.{Moves}
 use Rattle.edge_walk.specs.declared.search.Search.{Search}
 use Rattle.automata.proofs.Laws.Tests.{Says, never, fails, refutes, eqb_law, leb_law, and_law, allb_law}
+use Rattle.automata.proofs.Laws.Members.{Sorted, sorted_select}
 use Rattle.automata.proofs.Laws.Ranks.{few_ranks}
-use Rattle.automata.proofs.Laws.Rows.{isrowb_law, rows_at_out}
+use Rattle.automata.proofs.Laws.Rows.{isrowb_law, rows_at_out, rows_at_sorted}
 use Rattle.automata.proofs.Laws.Leads.{least_is}
 use Rattle.regions.proofs.Laws.Values.{at_take, length_first}
 use Rattle.regions.proofs.Laws.Placing.{placed_permits, placed_same}
@@ -49,6 +50,10 @@ led_law : (c : List ℕ) (e : Edge) (r x : Row) → Says (leadsb c e r x) (Led c
 unfolding leadsb
 led_law c e r x =
     and_law _ _ (and_law _ _ (and_law _ _ (and_law _ _ (eqb_law r.location e.source) (eqb_law x.location e.target)) (λ h. h, λ h. h)) (isrowb_law c x)) (λ h. h, λ h. h)
+
+pub led_sorted : (c : List ℕ) (e : Edge) (r : Row) → Sorted Below (edge_rows c e r)
+unfolding edge_rows
+led_sorted c e r = sorted_select Below (leadsb c e r) (rows_at c e.target) (rows_at_sorted c e.target)
 
 move_top : (c : List ℕ) (r : Row) (z : ℕ) (u : Update) → (move_of c r z u).top ≡ 2 * at c z + 1
 move_top c r z u = go u.action

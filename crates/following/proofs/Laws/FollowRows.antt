@@ -74,7 +74,7 @@ module _ (k : clocks_code.Clocks) (four : length k.bounds ≡ 4) (few : Few k) (
 
 -- the rows on a way
 module _ (w : Way) (ready : Ready w.search) (four : length w.search.clocks.bounds ≡ 4) (low : Low w.search.clocks) where
-  way_long : length (rows_bytes (rows_on w)) ≡ length (rows_on w) * row_width w.search.clocks.count
+  pub way_long : length (rows_bytes (rows_on w)) ≡ length (rows_on w) * row_width w.search.clocks.count
   way_long = rows_long w.search.clocks.count (rows_on w) (λ r m. row_sized w.search.clocks four ready.few low r (on_start w ready r m).held.is_row)
 
   pub way_fits : (count room : ℕ) (t : Bool) → count ≡ length (rows_on w) → t ≡ leb (count * row_width w.search.clocks.count) room → t ≡ fits (rows_on w) room

@@ -86,8 +86,8 @@ module _ (p : Row → Bool) (row : ℕ → Row) where
 
 -- a way's rows in a list -------------------------------------------------------------------------------------------------------------------
 
-module _ (k : Clocks) (list : List ℕ) (count : ℕ) (L : Listed k list count) (a : Ascends (listed_rows k.count list count)) (w : Way) (same : w.search.clocks ≡ k)
-    (start end : ℕ) (S : Starts k.count list count w.target start) (E : Together k.count list count start w.target end) where
+module _ (k : Clocks) (list : List ℕ) (count : ℕ) (L : Listed k list count) (a : Ascends (listed_rows k.count list count)) (p : Row → Bool) (target : ℕ)
+    (start end : ℕ) (S : Starts k.count list count target start) (E : Together k.count list count start target end) where
   abbrev n : ℕ
   n = k.count
 
@@ -97,26 +97,22 @@ module _ (k : Clocks) (list : List ℕ) (count : ℕ) (L : Listed k list count) 
   abbrev rows : List Row
   rows = listed_rows n list count
 
-  abbrev p : Row → Bool
-  p = allowsb w.search
+  -- the rows of the target that a test allows, as the moves of a way do
+  abbrev way : List Row
+  way = select p (rows_at (bounds_of k) target)
 
   -- those of the list
   abbrev met : List Row
   met = select p (map row (from start (end - start)))
 
-  way_law : (x : Row) → Mem x (rows_on w) → ((x.location ≡ w.target) × IsRow (bounds_of k) x) × (p x ≡ true)
-  unfolding rows_on
-  way_law x m =
-      let (h, t) = select_out p (rows_at (bounds_of w.search.clocks) w.target) m in
-      (rows_at_out (bounds_of k) w.target x (rw same at h), t)
+  way_law : (x : Row) → Mem x way → ((x.location ≡ target) × IsRow (bounds_of k) x) × (p x ≡ true)
+  way_law x m = let (h, t) = select_out p (rows_at (bounds_of k) target) m in (rows_at_out (bounds_of k) target x h, t)
 
-  on_way : (x : Row) → x.location ≡ w.target → IsRow (bounds_of k) x → p x ≡ true → Mem x (rows_on w)
-  unfolding rows_on
-  on_way x l i t = select_in p {xs = rows_at (bounds_of w.search.clocks) w.target} (rw same (rows_at_in (bounds_of k) w.target x l i)) t
+  on_way : (x : Row) → x.location ≡ target → IsRow (bounds_of k) x → p x ≡ true → Mem x way
+  on_way x l i t = select_in p {xs = rows_at (bounds_of k) target} (rows_at_in (bounds_of k) target x l i) t
 
-  way_sorted : Sorted Below (rows_on w)
-  unfolding rows_on
-  way_sorted = sorted_select Below p (rows_at (bounds_of w.search.clocks) w.target) (rows_at_sorted (bounds_of w.search.clocks) w.target)
+  way_sorted : Sorted Below way
+  way_sorted = sorted_select Below p (rows_at (bounds_of k) target) (rows_at_sorted (bounds_of k) target)
 
   met_law : (x : Row) → Mem x met → (i : ℕ) × (start ≤ i) × (i < end) × (row i ≡ x) × (p x ≡ true)
   met_law x m =
@@ -138,39 +134,49 @@ module _ (k : Clocks) (list : List ℕ) (count : ℕ) (L : Listed k list count) 
           above : (y : Row) → (i : ℕ) × Mem i (from (lo + 1) m) × (y ≡ row i) → Below (row lo) y
           above y (i, q, e) = let (b, d) = from_out (lo + 1) m i q in rw e (listed_rise n list count a lo i (omega arith) (omega arith))
 
-  met_on_way : (x : Row) → Mem x met → Mem x (rows_on w)
+  met_on_way : (x : Row) → Mem x met → Mem x way
   met_on_way x m =
       let (i, b, d, e, t) = met_law x m in
       rw (← e) (on_way (row i) (E.all i b d) (L.are_rows i (omega (arith, E.within))) (rw (← e) at t))
 
   -- all of them are listed
-  all_met : every (has rows) (rows_on w) ≡ true → length (rows_on w) ≤ length met
-  all_met h = sub_length met (rows_on w) met_sorted way_sorted (λ x m. go x m (in_listed n list count x ((has_law rows x).0 ((every_law (has rows) (λ x. (λ e. e, λ e. e)) (rows_on w)).0 h x m))))
+  all_met : every (has rows) way ≡ true → length way ≤ length met
+  all_met h = sub_length met way met_sorted way_sorted (λ x m. go x m (in_listed n list count x ((has_law rows x).0 ((every_law (has rows) (λ x. (λ e. e, λ e. e)) way).0 h x m))))
     where
-      go : (x : Row) → Mem x (rows_on w) → (i : ℕ) × (i < count) × (row i ≡ x) → Mem x met
+      go : (x : Row) → Mem x way → (i : ℕ) × (i < count) × (row i ≡ x) → Mem x met
       go x m (i, l, e) =
           let ((d, _), t) = way_law x m in
-          let (b, f) = between n list count w.target start end S E a i l (ap (λ (r : Row). r.location) e ∙ d) in
+          let (b, f) = between n list count target start end S E a i l (ap (λ (r : Row). r.location) e ∙ d) in
           rw (← e) (in_met i b f (rw (← e) at t))
 
   -- as many are listed as there are
-  many_met : length met ≡ length (rows_on w) → every (has rows) (rows_on w) ≡ true
-  many_met q = (every_law (has rows) (λ x. (λ e. e, λ e. e)) (rows_on w)).1 (λ x m. go x (all_of Below below_trans below_itself (rows_on w) way_sorted (λ (i : ℕ). get_or met i x) (rise x) (λ i h. met_on_way (get_or met i x) (get_or_in met i x (omega arith))) x m))
+  many_met : length met ≡ length way → every (has rows) way ≡ true
+  many_met q = (every_law (has rows) (λ x. (λ e. e, λ e. e)) way).1 (λ x m. go x (all_of Below below_trans below_itself way way_sorted (λ (i : ℕ). get_or met i x) (rise x) (λ i h. met_on_way (get_or met i x) (get_or_in met i x (omega arith))) x m))
     where
-      rise : (x : Row) (i j : ℕ) → i < j → j < length (rows_on w) → Below (get_or met i x) (get_or met j x)
+      rise : (x : Row) (i j : ℕ) → i < j → j < length way → Below (get_or met i x) (get_or met j x)
       rise x i j h l = sorted_at met met_sorted x i j h (omega arith)
 
-      go : (x : Row) → (i : ℕ) × (i < length (rows_on w)) × (get_or met i x ≡ x) → has rows x ≡ true
+      go : (x : Row) → (i : ℕ) × (i < length way) × (get_or met i x ≡ x) → has rows x ≡ true
       go x (i, l, e) =
           let (j, b, d, f, t) = met_law (get_or met i x) (get_or_in met i x (omega arith)) in
           (has_law rows x).1 (rw (f ∙ e) at (listed_in n list count j (omega (arith, E.within))))
 
-  pub all_counted : (found total : ℕ) → found ≡ passing p row start (end - start) → total ≡ length (rows_on w) → eqb found total ≡ every (has rows) (rows_on w)
-  all_counted found total f t = go (every (has rows) (rows_on w)) refl
+  pub all_counted : (found total : ℕ) → found ≡ passing p row start (end - start) → total ≡ length way → eqb found total ≡ every (has rows) way
+  all_counted found total f t = go (every (has rows) way) refl
     where
       size : found ≡ length met
       size = f ∙ sym (passed_length p row (end - start) start)
 
-      go : (b : Bool) → every (has rows) (rows_on w) ≡ b → eqb found total ≡ b
-      go true h = (eqb_law found total).1 (omega (arith, size, t, all_met h, sub_length (rows_on w) met way_sorted met_sorted met_on_way))
+      go : (b : Bool) → every (has rows) way ≡ b → eqb found total ≡ b
+      go true h = (eqb_law found total).1 (omega (arith, size, t, all_met h, sub_length way met way_sorted met_sorted met_on_way))
       go false h = fails (eqb found total) (eqb_law found total) (λ e. never (sym h ∙ many_met (sym size ∙ e ∙ t)))
+
+-- .. of a way that the code has
+module _ (k : Clocks) (list : List ℕ) (count : ℕ) (L : Listed k list count) (a : Ascends (listed_rows k.count list count)) (w : Way) (same : w.search.clocks ≡ k)
+    (start end : ℕ) (S : Starts k.count list count w.target start) (E : Together k.count list count start w.target end) where
+  pub all_counted_on : (found total : ℕ) → found ≡ passing (allowsb w.search) (listed_row k.count list) start (end - start) → total ≡ length (rows_on w)
+      → eqb found total ≡ every (has (listed_rows k.count list count)) (rows_on w)
+  unfolding rows_on
+  all_counted_on found total f t =
+      let e : rows_on w ≡ select (allowsb w.search) (rows_at (bounds_of k) w.target) = λ i. select (allowsb w.search) (rows_at (bounds_of (same i)) w.target) in
+      all_counted k list count L a (allowsb w.search) w.target start end S E found total f (t ∙ ap length e) ∙ sym (ap (every (has (listed_rows k.count list count))) e)

@@ -137,6 +137,10 @@ module _ {table before : List ℕ} {records : ℕ} {out : List ℕ} {ws : List R
 
   -- from row to row, and from rows to walks -------------------------------------------------------------------------------------------------------
 
+  -- the waiting list has room for all rows
+  pub top_in : s.top < s.count → s.top < records
+  top_in h = omega (arith, S.grown.listed.short, S.enough)
+
   module _ (w : s.walking ≡ false) (all : s.last.step ≡ suc s.head.edges) where
     all_edges : s.last.step ≡ suc (length (table_of table).edges)
     all_edges = all ∙ ap suc edges_are

@@ -1,5 +1,6 @@
--- What the code has of the next rows of a row. Assumes nothing.
-use Prim.Native.Nat.{ℕ}
+-- The next rows of a row: they are rows, and where they are; what the code has of them. Assumes nothing.
+use Prim.Native.Nat.{ℕ, ◌≤◌, ◌<◌}
+use native.Mathlib.Omega.{arith}
 use mathlib.Core.Path.{◌≡◌, refl, sym, ap, ◌∙◌}
 use mathlib.Core.Bool.{Bool, true, false, ◌&&◌}
 use mathlib.Core.Option.{none}
@@ -7,7 +8,9 @@ use mathlib.Core.List.Memᴰ
 use mathlib.Core.List.{List, [], ◌∷◌}
 use lib.ListN.{length}
 use lib.Dec.{eqb}
+use Rattle.automata.specs.Clocks.{at}
 use Rattle.automata.specs.Row.{Row, IsRow}
+use Rattle.automata.specs.Edge.{Edge}
 use Rattle.automata.specs.Closed.{Mem}
 use Rattle.automata.specs.Rows.{rows_at}
 use Rattle.automata.specs.Wait.{wait}
@@ -20,9 +23,31 @@ use Rattle.std.specs.Prelude.{is_some}
 use Rattle.regions.specs.declared.edge.Edge as edge_code
 use Rattle.edge_walk.specs.Walk.{first_above}
 use Rattle.automata.proofs.Laws.Tests.{never}
-use Rattle.automata.proofs.Laws.Waiting.{wait_row}
-use Rattle.regions.proofs.Laws.Values.{found_sought}
+use Rattle.automata.proofs.Laws.Members.{select_out}
+use Rattle.automata.proofs.Laws.Rows.{rows_at_out}
+use Rattle.automata.proofs.Laws.Waiting.{wait_row, wait_location}
+use Rattle.automata.proofs.Laws.Successors.{wait_rows_law}
+use Rattle.regions.proofs.Laws.Values.{at_take, found_sought}
 use Rattle.edge_walk.proofs.Laws.Way.{select_none}
+
+-- rows ----------------------------------------------------------------------------------------------------------------------------
+
+-- the rows that an edge leads to are rows, in its target
+pub led_row : (c : List ℕ) (e : Edge) (r x : Row) → Mem x (edge_rows c e r) → IsRow c x × (x.location ≡ e.target)
+unfolding edge_rows
+led_row c e r x m = let (l, i) = rows_at_out c e.target x (select_out (leadsb c e r) (rows_at c e.target) m).0 in (i, l)
+
+-- the row that waiting leads to is a row, in the same location
+pub waited_row : (c : List ℕ) (r x : Row) → IsRow c r → Mem x (wait_rows c r) → IsRow c x × (x.location ≡ r.location)
+waited_row c r x R m = let e = (wait_rows_law c r x).0 m in (wait_row c r x R e, wait_location c r x R e)
+
+-- it can be written: its intervals are bytes
+pub new_narrow : (k : Clocks) → length (bounds_of k) ≡ k.count → ((z : ℕ) → z < k.count → at k.bounds z ≤ 127)
+    → (v : Region) → IsRow (bounds_of k) (row_of k.count v) → (z : ℕ) → z < k.count → at v.intervals z < 256
+new_narrow k long low v i z h =
+    omega (arith, i.in_range z (omega (arith, long)), at_take k.count v.intervals z h, at_take k.count k.bounds z h, low z h)
+
+-- what the code has of them -------------------------------------------------------------------------------------------------------
 
 -- the region after this one in time, or none
 pub waited : (c : List ℕ) (n : ℕ) → length c ≡ n → (r : Row) → IsRow c r → (s : option_code.Option Region) → s ≡ sought (wait c r) → held (found_of n s) ≡ wait_rows c r

@@ -146,7 +146,7 @@ walk_fewer all y (some y') f =
 
 module _ (w : Way) (k : Clocks) (e : w.search.clocks ≡ k) (long : length (bounds_of k) ≡ k.count) where
   -- its rows are rows of its clocks
-  way_sized : (x : Row) → Mem x (rows_on w) → (length x.intervals ≡ k.count) × (length x.ranks ≡ k.count)
+  pub way_sized : (x : Row) → Mem x (rows_on w) → (length x.intervals ≡ k.count) × (length x.ranks ≡ k.count)
   way_sized x m =
       let j = subst (λ (k : Clocks). IsRow (bounds_of k) x) e (on_start w (ready_of w.search) x m).held.is_row in
       (j.intervals_length ∙ long, j.ranks_length ∙ long)

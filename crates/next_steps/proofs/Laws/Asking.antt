@@ -52,7 +52,7 @@ module _ (table : List ℕ) (head : Head) (D : Describes table head) where
       pub edge_bounded : Bounded (bounds_of k) (edge_of n e)
       edge_bounded = let (records, p) = D.passes in rw (same, D.bounds, means) ((admission_admitted table records p).bounded j edge_there)
 
-      target_is : final T e.target ≡ into_final T (suc j)
+      pub target_is : final T e.target ≡ into_final T (suc j)
       target_is i = final T (means i).target
 
       -- what is due by the edge

@@ -2,13 +2,17 @@
 use Prim.Native.Nat.{ℕ, suc, ◌+◌, ◌≤◌, ◌<◌}
 use native.Mathlib.Decide.{ℕ_discrete}
 use native.Mathlib.Omega.{arith}
-use mathlib.Core.Path.{◌≡◌, sym, ap, subst}
+use mathlib.Core.Path.{◌≡◌, refl, sym, ap, subst, ◌∙◌}
 use mathlib.Core.Bool.{Bool, true, false}
 use mathlib.Core.List.{List}
 use lib.ListN.{length}
+use lib.Dec.{ltb}
+use borrow.Author.Tests.{ltb-true}
 use Rattle.automata.specs.Row.{Row, IsRow}
+use Rattle.automata.specs.Edge.{Edge}
 use Rattle.automata.specs.Automaton.{Table, edge}
 use Rattle.automata.specs.Closed.{Mem}
+use Rattle.automata.specs.Successors.{edge_rows}
 use Rattle.automata.specs.Checks.{every, has}
 use Rattle.automata.proofs.Laws.Tests.{never}
 use Rattle.regions.specs.Values.{row_of, region_of, edge_of}
@@ -19,16 +23,19 @@ use Rattle.skylines.proofs.Laws.NoNext.{edge_elsewhere}
 use Rattle.table_files.specs.Admission.{table_of}
 use Rattle.table_records.specs.declared.head.Head.{Head}
 use Rattle.tables.specs.Values.{Describes}
+use Rattle.listed_rows.specs.Listed.{listed_row, listed_rows}
 use Rattle.listed_rows.specs.Located.{RowsIn}
 use Rattle.listed_rows.specs.RegionLists.{nth_row, all_rows}
 use Rattle.listed_rows.specs.EdgesInLists.{bounds_in, edge_in, led_in}
+use Rattle.listed_rows.specs.declared.listed.Span.{Span}
 use Rattle.listed_rows.specs.declared.region_list.RegionList.{RegionList}
 use Rattle.listed_rows.specs.declared.edge_in_list.EdgeInList.{EdgeInList}
 use Rattle.listed_rows.proofs.Laws.RegionLists.{listed_of, ascends_of}
 use Rattle.listed_rows.proofs.Laws.Listed.{listed_in, in_listed, listed_again}
 use Rattle.listed_rows.proofs.Laws.Located.{between}
 use Rattle.walked_rows.specs.Open.{SomeOpen}
-use Rattle.walked_rows.specs.Leading.{LeadsIn}
+use Rattle.selection.specs.Chosen.{taken_at}
+use Rattle.walked_rows.specs.Leading.{TakenInside, LeadsIn, TakenIn}
 use Rattle.kept_rows.specs.Births.{birth}
 use Rattle.new_rows.specs.New.{NewOf}
 use Rattle.next_steps.specs.Steps.{due, plain, NewBy, Walks}
@@ -37,7 +44,40 @@ use Rattle.next_steps.specs.declared.walking.Walk.{Walk}
 use Rattle.next_steps.proofs.Laws.Steps.{walked_outside}
 use Rattle.next_steps.proofs.Laws.Asking.{led_are}
 
--- one edge -----------------------------------------------------------------------------------------------------------------------------------------
+-- one edge, of any bounds and list ---------------------------------------------------------------------------------------------------------------------
+
+module _ (c : List ℕ) (e : Edge) (n : ℕ) (list : List ℕ) (count : ℕ) where
+  abbrev rows : List Row
+  rows = listed_rows n list count
+
+  -- what `Leads` says
+  abbrev Kept : Row → Type 0
+  Kept r = every (has rows) (edge_rows c e r) ≡ true
+
+  -- rows that are marked as old are old; what is said of the first is what `Old` says
+  pub old_inside : (start stop : ℕ) → RowsIn n list count e.source start stop → (first : ℕ) → ((i : ℕ) → i < count → birth n list i < first → Kept (listed_row n list i))
+      → (marks : List Bool) → ((i : ℕ) → start ≤ i → i < stop → taken_at marks i ≡ ltb (birth n list i) first) → TakenInside c e n list count start stop marks
+  old_inside start stop I first old marks are i s l t = old i (omega (arith, I.together.within)) (ltb-true _ _ (sym (are i s l) ∙ t))
+
+  -- what `WalkedBy` says: a new row that the edge leads to from one of the rows, or none; and the row that was walked from
+  pub record WalkedFrom (next from : Option Region) : Type 0 where
+    pub none : next ≡ None → (r : Row) → Mem r rows → Kept r
+    pub one : (v : Region) → next ≡ Some v → (r : Row) × Mem r rows × Mem (row_of n v) (edge_rows c e r)
+    pub new : (v : Region) → next ≡ Some v → has rows (row_of n v) ≡ false
+    pub from_row : (v : Region) → from ≡ Some v → Mem (row_of n v) rows
+
+  -- from a row of the list that is open, and so has a new one
+  pub walked_open : (from : Region) → Mem (row_of n from) rows → (Kept (row_of n from) → ⊥) → (next : Option Region) → NewOf n (edge_rows c e (row_of n from)) rows next
+      → WalkedFrom next (Some from)
+  walked_open from i lacks None N = absurd (lacks N)
+  walked_open from i lacks (Some x) N = record {
+    none = λ g. never (sym (ap is_some g));
+    one = λ v g. subst (λ (y : Region). (r : Row) × Mem r rows × Mem (row_of n y) (edge_rows c e r)) (ap (λ (o : Option Region). unwrap_or o x) g) (row_of n from, i, N.0);
+    new = λ v g. subst (λ (y : Region). has rows (row_of n y) ≡ false) (ap (λ (o : Option Region). unwrap_or o x) g) N.1;
+    from_row = λ v g. subst (λ (y : Region). Mem (row_of n y) rows) (ap (λ (o : Option Region). unwrap_or o from) g) i;
+  }
+
+-- one edge in a list -----------------------------------------------------------------------------------------------------------------------------------
 
 module _ (k : EdgeInList) where
   abbrev n : ℕ
@@ -56,6 +96,11 @@ module _ (k : EdgeInList) where
         let same = listed_again n k.list.bytes.now r x m in
         (rw same (listed_in n k.list.bytes.now k.list.count r (omega (arith, I.together.within))), λ L. O.here h (rw same at L))
 
+  -- rows that are marked as old are old
+  pub old_inside_in : (rows : Span) → RowsIn n k.list.bytes.now k.list.count k.e.source rows.start rows.end → (first : ℕ) → Old k first → (marks : List Bool)
+      → ((i : ℕ) → rows.start ≤ i → i < rows.end → taken_at marks i ≡ ltb (birth n k.list.bytes.now i) first) → TakenIn k rows marks
+  old_inside_in rows = old_inside (bounds_in k) (edge_in k) n k.list.bytes.now k.list.count rows.start rows.end
+
   -- a row of the list is a row of these clocks
   pub row_listed : (r : Row) → Mem r (all_rows k.list) → IsRow (bounds_in k) r
   row_listed r i = let (j, l, p) = in_listed n k.list.bytes.now k.list.count r i in rw p at ((listed_of k.list).are_rows j l)
@@ -68,6 +113,12 @@ module _ (k : EdgeInList) where
   pub walked_further : (from next : Region) → Mem (row_of n from) (all_rows k.list) → NewOf n (led_in k (row_of n from)) (all_rows k.list) (Some next)
       → Walked k (record { next = next; «from» = from })
   walked_further from next i N = record { one = (row_of n from, i, N.0); new = N.1; from_row = i }
+
+  -- .. and that is open, so that there is a new one
+  pub walked_open_in : (from : Region) (next : Option Region) → OpenBy k (Some from) → NewOf n (led_in k (row_of n from)) (all_rows k.list) next
+      → (v : Region) × (next ≡ Some v) × WalkedBy k (Some (record { next = v; «from» = from }))
+  walked_open_in from None O N = absurd (O.1 N)
+  walked_open_in from (Some v) O N = (v, refl, walked_further from v O.0 N)
 
 -- edge by edge -----------------------------------------------------------------------------------------------------------------------------------------
 

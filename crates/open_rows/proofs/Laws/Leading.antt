@@ -8,9 +8,9 @@ use mathlib.Core.Logic.{◌⊎◌, inl, inr, ◌↔◌}
 use mathlib.Core.List.{List}
 use lib.ListN.{length}
 use Rattle.automata.specs.Row.{Row}
-use Rattle.automata.specs.Edge.{Bounded}
+use Rattle.automata.specs.Edge.{Edge, Bounded}
 use Rattle.automata.specs.Automaton.{Table, edge}
-use Rattle.automata.specs.Closed.{Mem}
+use Rattle.automata.specs.Closed.{Mem, Ascends}
 use Rattle.automata.specs.Successors.{wait_rows, edge_rows}
 use Rattle.automata.specs.Next.{time_successors, edge_successors, by_edges, next_rows}
 use Rattle.automata.specs.Checks.{every, has}
@@ -43,30 +43,31 @@ all_listed rows xs = every_law (has rows) (has_law rows) xs
 
 -- one edge -------------------------------------------------------------------------------------------------------------------------------
 
-module _ (k : EdgeInList) (start stop : ℕ) (I : RowsIn k.list.clocks.count k.list.bytes.now k.list.count k.e.source start stop) where
-  pub source_stretch : (end : ℕ) → start ≤ end → end ≤ stop → Stretch k.list.clocks.count k.list.bytes.now k.list.count k.e.source start end
-  source_stretch end h g = record { from = h; within = omega (arith, I.together.within); all = λ i l m. I.together.all i l (omega arith) }
+module _ (n : ℕ) (list : List ℕ) (count : ℕ) (c : List ℕ) (e : Edge) (start stop : ℕ) (I : RowsIn n list count e.source start stop)
+    (a : Ascends (listed_rows n list count)) where
+  abbrev In : ℕ → Type 0
+  In = Inside (edge_rows c e) n list count
 
   -- the rows of its source are these
-  among : (i : ℕ) → i < k.list.count → (nth_row k.list i).location ≡ k.e.source → (start ≤ i) × (i < stop)
-  among = between k.list.clocks.count k.list.bytes.now k.list.count k.e.source start stop I.starts I.together (ascends_of k.list)
+  among : (i : ℕ) → i < count → (listed_row n list i).location ≡ e.source → (start ≤ i) × (i < stop)
+  among = between n list count e.source start stop I.starts I.together a
 
   -- it leads nowhere from the rows of other locations
-  leads_if : (i : ℕ) → ((nth_row k.list i).location ≡ k.e.source → LeadsIn k i) → LeadsIn k i
-  leads_if i h = go (ℕ_discrete (nth_row k.list i).location k.e.source)
+  leads_if : (i : ℕ) → ((listed_row n list i).location ≡ e.source → In i) → In i
+  leads_if i h = go (ℕ_discrete (listed_row n list i).location e.source)
     where
-      go : Dec ((nth_row k.list i).location ≡ k.e.source) → LeadsIn k i
+      go : Dec ((listed_row n list i).location ≡ e.source) → In i
       go (yes q) = h q
-      go (no q) = sym (edge_elsewhere (bounds_in k) (edge_in k) (nth_row k.list i) (has (all_rows k.list)) q)
+      go (no q) = sym (edge_elsewhere c e (listed_row n list i) (has (listed_rows n list count)) q)
 
-  elsewhere : (i : ℕ) → i < k.list.count → ((start ≤ i) × (i < stop) → ⊥) → LeadsIn k i
+  elsewhere : (i : ℕ) → i < count → ((start ≤ i) × (i < stop) → ⊥) → In i
   elsewhere i l h = leads_if i (λ q. absurd (h (among i l q)))
 
-  module _ (end : ℕ) (short : end ≤ k.list.count) where
-    pub source_after : end ≤ start → FirstOpen (LeadsIn k) 0 end end
-    source_after h = first_none (LeadsIn k) 0 end (omega arith) (λ i g l. elsewhere i (omega arith) (λ q. omega (arith, q)))
+  module _ (end : ℕ) (short : end ≤ count) where
+    pub source_after : end ≤ start → FirstOpen In 0 end end
+    source_after h = first_none In 0 end (omega arith) (λ i g l. elsewhere i (omega arith) (λ q. omega (arith, q)))
 
-    pub source_here : start ≤ end → end ≤ stop → (r : ℕ) → FirstOpen (LeadsIn k) start end r → FirstOpen (LeadsIn k) 0 end r
+    pub source_here : start ≤ end → end ≤ stop → (r : ℕ) → FirstOpen In start end r → FirstOpen In 0 end r
     source_here h g r F = record {
       from = omega arith;
       to = F.to;
@@ -74,11 +75,26 @@ module _ (k : EdgeInList) (start stop : ℕ) (I : RowsIn k.list.clocks.count k.l
       here = F.here;
     }
 
-    pub source_before : stop ≤ end → (r : ℕ) → FirstOpen (LeadsIn k) start stop r
-        → (r < stop → FirstOpen (LeadsIn k) 0 end r) × (stop ≤ r → FirstOpen (LeadsIn k) 0 end end)
+    pub source_before : stop ≤ end → (r : ℕ) → FirstOpen In start stop r → (r < stop → FirstOpen In 0 end r) × (stop ≤ r → FirstOpen In 0 end end)
     source_before h r F =
-        first_within (LeadsIn k) start stop end I.together.from h (λ i l. elsewhere i (omega (arith, I.together.from, I.together.within)) (λ q. omega (arith, q)))
+        first_within In start stop end I.together.from h (λ i l. elsewhere i (omega (arith, I.together.from, I.together.within)) (λ q. omega (arith, q)))
         (λ i g l. elsewhere i (omega arith) (λ q. omega (arith, q))) r F
+
+-- .. as an edge in a list
+module _ (k : EdgeInList) (start stop : ℕ) (I : RowsIn k.list.clocks.count k.list.bytes.now k.list.count k.e.source start stop) where
+  pub source_stretch : (end : ℕ) → start ≤ end → end ≤ stop → Stretch k.list.clocks.count k.list.bytes.now k.list.count k.e.source start end
+  source_stretch end h g = record { from = h; within = omega (arith, I.together.within); all = λ i l m. I.together.all i l (omega arith) }
+
+  module _ (end : ℕ) (short : end ≤ k.list.count) where
+    pub source_after_in : end ≤ start → FirstOpen (LeadsIn k) 0 end end
+    source_after_in = source_after _ _ _ (bounds_in k) (edge_in k) start stop I (ascends_of k.list) end short
+
+    pub source_here_in : start ≤ end → end ≤ stop → (r : ℕ) → FirstOpen (LeadsIn k) start end r → FirstOpen (LeadsIn k) 0 end r
+    source_here_in = source_here _ _ _ (bounds_in k) (edge_in k) start stop I (ascends_of k.list) end short
+
+    pub source_before_in : stop ≤ end → (r : ℕ) → FirstOpen (LeadsIn k) start stop r
+        → (r < stop → FirstOpen (LeadsIn k) 0 end r) × (stop ≤ r → FirstOpen (LeadsIn k) 0 end end)
+    source_before_in = source_before _ _ _ (bounds_in k) (edge_in k) start stop I (ascends_of k.list) end short
 
 -- edge by edge ---------------------------------------------------------------------------------------------------------------------------
 

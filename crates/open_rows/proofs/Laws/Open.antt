@@ -19,7 +19,7 @@ use Rattle.std.specs.Option.{MatchOption, unwrap_or}
 use Rattle.std.specs.declared.ops.Range.{Range}
 use Rattle.std.specs.declared.option.Option.{Option}
 use Rattle.std.specs.declared.option.Option.TheVariants.{Some, None}
-use Rattle.walked_rows.specs.Open.{FirstOpen}
+use Rattle.walked_rows.specs.Open.{FirstOpen, SomeOpen}
 
 module _ (P : ℕ → Type 0) (lo hi : ℕ) where
   -- by halves ----------------------------------------------------------------------------------------------------------------------------
@@ -33,6 +33,27 @@ module _ (P : ℕ → Type 0) (lo hi : ℕ) where
     pub to : first ≤ hi
     pub before : (i : ℕ) → lo ≤ i → i < low → P i
     pub here : first < hi → P first → ⊥
+
+  pub halving_begins : (first : ℕ) → lo ≤ first → first ≤ hi → (first < hi → P first → ⊥) → Halving lo first first
+  halving_begins first a b h =
+      record { from = omega arith; some = λ l. l; low_top = a; top_first = omega arith; to = b; before = λ i a b. absurd (omega arith); here = h }
+
+  module _ (low first top : ℕ) (H : Halving low first top) where
+    pub halving_ends : first ≤ low → FirstOpen P lo hi first
+    halving_ends l = record { from = omega (arith, H.from, H.low_top, H.top_first); to = H.to; before = λ i a b. H.before i a (omega (arith, H.low_top, H.top_first)); here = H.here }
+
+    -- one is found, and those before it are left
+    pub halving_fails : (r : ℕ) → r < top → (P r → ⊥) → (top' : ℕ) → low ≤ top' → top' ≤ r → (low < r → low < top') → Halving low r top'
+    halving_fails r l h top' a b some =
+        record { from = H.from; some = some; low_top = a; top_first = b; to = omega (arith, H.top_first, H.to); before = H.before; here = λ k. h }
+
+    -- none is
+    pub halving_passes : (r : ℕ) → SomeOpen P low top r → top ≤ r → Halving top first first
+    halving_passes r S n = record { from = omega (arith, H.from, H.low_top); some = λ l. l; low_top = H.top_first; top_first = omega arith; to = H.to; before = λ i a b. go i a b (dec_lt i low); here = H.here }
+      where
+        go : (i : ℕ) → lo ≤ i → i < top → Dec (i < low) → P i
+        go i a b (yes l) = H.before i a l
+        go i a b (no l) = S.all (omega (arith, S.to)) i (omega arith) b
 
 -- by `find`, whose closure says where it fails the test --------------------------------------------------------------------------------------
 

@@ -42,31 +42,31 @@ module _ (n : ℕ) (list : List ℕ) (count : ℕ) where
   -- 14 ---------------------------------------------------------------------------------------------------------------------------
 
   -- the rows up to row i ascend
-  record OrderedTo (i : ℕ) : Type 0 where
+  pub record OrderedTo (i : ℕ) : Type 0 where
     pub within : i ≤ count
     pub so_far : (file : List ℕ) → ascending 1 rows file ≡ ascending (i + 1) (drop i rows) file
 
-  ordered_none : OrderedTo 0
+  pub ordered_none : OrderedTo 0
   ordered_none = record { within = omega arith; so_far = λ file. refl }
 
   module _ (i : ℕ) (S : OrderedTo i) where
     two_rows : i + 1 < count → drop i rows ≡ listed_row n list i ∷ (listed_row n list (i + 1) ∷ drop (i + 1 + 1) rows)
     two_rows l = rest_is i (omega arith) ∙ ap (λ (more : List Row). listed_row n list i ∷ more) (rest_is (i + 1) l)
 
-    ordered_on : i + 1 < count → belowb (listed_row n list i) (listed_row n list (i + 1)) ≡ true → OrderedTo (i + 1)
+    pub ordered_on : i + 1 < count → belowb (listed_row n list i) (listed_row n list (i + 1)) ≡ true → OrderedTo (i + 1)
     unfolding ascending carry require
     ordered_on l b = record {
       within = omega arith;
       so_far = λ file. S.so_far file ∙ rw (two_rows l, b, rest_is (i + 1) l);
     }
 
-    ordered_fails : i + 1 < count → belowb (listed_row n list i) (listed_row n list (i + 1)) ≡ false → (file : List ℕ) → ascending 1 rows file ≡ bad 14 (i + 2)
+    pub ordered_fails : i + 1 < count → belowb (listed_row n list i) (listed_row n list (i + 1)) ≡ false → (file : List ℕ) → ascending 1 rows file ≡ bad 14 (i + 2)
     unfolding ascending carry require
     ordered_fails l b file =
         let e : i + 1 + 1 ≡ i + 2 = omega arith in
         S.so_far file ∙ rw (two_rows l, b, e)
 
-    ordered_all : count ≤ i + 1 → (file : List ℕ) → ascending 1 rows file ≡ good tt file
+    pub ordered_all : count ≤ i + 1 → (file : List ℕ) → ascending 1 rows file ≡ good tt file
     ordered_all l file = S.so_far file ∙ short_ascends (i + 1) (drop i rows) file (rw length-drop (omega (arith, listed_length n list count)))
 
   -- row i, which is read again, is above the row before it
@@ -100,23 +100,23 @@ module _ (n : ℕ) (list : List ℕ) (count : ℕ) where
 
   module _ (T : Table) where
     -- no row before row i has a final location
-    record NoneFinalTo (i : ℕ) : Type 0 where
+    pub record NoneFinalTo (i : ℕ) : Type 0 where
       pub within : i ≤ count
       pub so_far : (file : List ℕ) → none_final T 1 rows file ≡ none_final T (i + 1) (drop i rows) file
 
-    final_none : NoneFinalTo 0
+    pub final_none : NoneFinalTo 0
     final_none = record { within = omega arith; so_far = λ file. refl }
 
     module _ (i : ℕ) (S : NoneFinalTo i) where
-      final_on : i < count → final T (listed_row n list i).location ≡ false → NoneFinalTo (i + 1)
+      pub final_on : i < count → final T (listed_row n list i).location ≡ false → NoneFinalTo (i + 1)
       unfolding none_final carry require
       final_on l b = record { within = omega arith; so_far = λ file. S.so_far file ∙ rw (rest_is i l, b) }
 
-      final_found : i < count → final T (listed_row n list i).location ≡ true → (file : List ℕ) → none_final T 1 rows file ≡ bad 15 (i + 1)
+      pub final_found : i < count → final T (listed_row n list i).location ≡ true → (file : List ℕ) → none_final T 1 rows file ≡ bad 15 (i + 1)
       unfolding none_final carry require
       final_found l b file = S.so_far file ∙ rw (rest_is i l, b)
 
-      final_all : count ≤ i → (file : List ℕ) → none_final T 1 rows file ≡ good tt file
+      pub final_all : count ≤ i → (file : List ℕ) → none_final T 1 rows file ≡ good tt file
       unfolding none_final
       final_all l file = S.so_far file ∙ rw (ended i l)
 

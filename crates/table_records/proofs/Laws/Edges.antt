@@ -37,7 +37,7 @@ module _ (file : List ℕ) (n L place p : ℕ) {b : List ℕ} (is : b ≡ record
   edge_short h = rw (record_lacks file p 5 1 place ED b is h)
 
   module _ (there : 5 ≤ length b) where
-    found : Found file p 5 1 place ED b
+    pub found : Found file p 5 1 place ED b
     found = record_found file p 5 1 place ED b is (omega arith) there
 
     -- the tests of the fields before the guards are one
@@ -60,7 +60,7 @@ module _ (file : List ℕ) (n L place p : ℕ) {b : List ℕ} (is : b ≡ record
       rest_short h = rest_due ∙ rw (bytes_lack file (p + 5) (size_of (at b 4) n) 1 place d (rw sized at part) (rw sized at h))
 
       module _ (rest_there : size ≤ length d) where
-        taken : Taken file (p + 5) (size_of (at b 4) n) 1 place d
+        pub taken : Taken file (p + 5) (size_of (at b 4) n) 1 place d
         taken = bytes_found file (p + 5) (size_of (at b 4) n) 1 place d (rw sized at part) (λ z. found.fits) (rw sized at rest_there)
 
         pub rest_fits : p + 5 + size ≤ length file

@@ -244,7 +244,12 @@ module _ (m : Move) (w : ℕ) where
       go true s l before = (i, omega arith, s.0 refl)
       go false s l before = let (j, a, e) = before (omega arith) in (j, omega arith, e)
 
--- a count as a sum over the intervals
+-- a count, if it is asked for
+pub none_or_many : (b : Bool) (n : ℕ) → cond b n 0 ≤ n
+none_or_many true n = omega arith
+none_or_many false n = omega arith
+
+-- .. as a sum over the intervals
 pub kind_total : (m : Move) (w i : ℕ) → total (λ (j : ℕ). one_if (eqb (kind m j) w)) (from 0 i) ≡ of_kind m w i
 unfolding of_kind
 kind_total m w zero = refl

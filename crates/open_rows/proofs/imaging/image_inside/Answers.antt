@@ -6,7 +6,7 @@ use Rattle.listed_rows.proofs.Laws.Listed.{listed_again}
 use Rattle.listed_rows.proofs.Laws.RegionLists.{listed_of}
 use Rattle.listed_rows.specs.EdgesInLists.{bounds_in, edge_in, led_in}
 use Rattle.listed_rows.specs.RegionLists.{all_rows}
-use Rattle.open_rows.proofs.Laws.Known.{known_covers, known_kept}
+use Rattle.open_rows.proofs.Laws.Known.{known_covers_in, known_kept}
 use Rattle.skylines.proofs.Laws.NoNext.{edge_blocked}
 use mathlib.Core.Path.{sym, ap, ◌∙◌}
 use Rattle.open_rows.proofs.imaging.image_inside.Goals as goal
@@ -21,7 +21,7 @@ pub returns-then-is_within-clause-listed : goal.returns-then-is_within-clause-li
 returns-then-is_within-clause-listed c =
     let k = c.args.edge.now in
     let same = listed_again k.list.clocks.count k.list.bytes.now _ _ c.row-row.ensures in
-    known_covers k _ _ c.requires.known_2 c.args.i c.requires.i_lt_count c.requires.i_value (ap (λ (r : Row). guardsb r (edge_in k).guards) (sym same) ∙ sym c.guards_hold.ensures ∙ c.if-not-guards_hold.false) _ (rw same at c.reach_of-own.ensures) _ c.slot-k.ensures c.if-known-k.true (sym c.is_within.ensures ∙ c.if-is_within.true)
+    known_covers_in k _ _ c.requires.known_2 c.args.i c.requires.i_lt_count c.requires.i_value (ap (λ (r : Row). guardsb r (edge_in k).guards) (sym same) ∙ sym c.guards_hold.ensures ∙ c.if-not-guards_hold.false) _ (rw same at c.reach_of-own.ensures) _ c.slot-k.ensures c.if-known-k.true (sym c.is_within.ensures ∙ c.if-is_within.true)
 
 pub leads_to_one-found-requires-clause-row : goal.leads_to_one-found-requires-clause-row
 leads_to_one-found-requires-clause-row c =
