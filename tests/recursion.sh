@@ -20,8 +20,14 @@ bad() { failed=$((failed + 1)); echo "recursion: $*"; }
 # is WHAT EXPECTED GOT
 is() { if [ "$2" = "$3" ]; then ok; else bad "$1: '$3', expected '$2'"; fi; }
 
+# The functions of the library that may call what was given to them. There is one: `pattern_where` asks the test that it is given of each clock, for the
+# two numbers of a choice that differ in this test alone. Its calls count as calls of each test that is handed to it, so that no call is left untold.
+takers=rankings::ranking::pattern_where
+
 # cycles FILE..: what recursion.awk says of files of MIR
-cycles() { sed -E 's/\{"Call":\[?|\{"Fn":|\["[^"]*",\{"lifetimes":[0-9]/\n&/g' "$@" | awk -f "$here/tests/cycles.awk" -f "$here/tests/recursion.awk"; }
+cycles() {
+  sed -E 's/\{"Call":\[?|\{"Fn":|\["[^"]*",\{"lifetimes":[0-9]/\n&/g' "$@" | awk -v takers="$takers" -f "$here/tests/cycles.awk" -f "$here/tests/recursion.awk"
+}
 
 # code_cycles PROGRAM: the same of a program
 code_cycles() { objdump -d --no-show-raw-insn "$1" | awk -f tests/cycles.awk -f tests/recursion_code.awk; }
@@ -258,18 +264,46 @@ noticed() {
   is "$1" "$2" "$(cycles "$work/noticed.mir")"
 }
 noticed 'a function that is not there' 'one calls two, which is not there' '{"Call":[{"Fn":["two",{"types":[],"dicts":[]}]},[],{"local":0,"steps":[]}]}'
+noticed 'a call through a bound' "a call in one is not by a function's name" '{"Call":[{"Method":[{"Given":0},0,{"types":[],"dicts":[]}]},[],{"local":0,"steps":[]}]}'
 noticed 'a call by how a type does something' "a call in one is not by a function's name" '{"Call":[{"Method":[{"Impl":["two",[],[]]},0,{"types":[],"dicts":[]}]},[],{"local":0,"steps":[]}]}'
 noticed 'a call through a pointer' "a call in one is not by a function's name" '{"Call":[{"Copy":{"local":1,"steps":[]}},[],{"local":0,"steps":[]}]}'
 noticed 'a function kept in a place' 'one has the name of one elsewhere than in a call' '{"Assign":[{"local":1,"steps":[]},{"Opd":{"Fn":["one",{"types":[],"dicts":[]}]}}]}'
 noticed 'a call that hands on a function' 'one hands on to one what was given to it
 one calls itself' '{"Call":[{"Fn":["one",{"types":["Bool"],"dicts":[{"Given":0}]}]},[],{"local":0,"steps":[]}]}'
-# a closure that is handed to the kit, and calls the function that hands it on; and one that is handed on and calls nothing
-printf '[["one",{"lifetimes":0,"body":["Seq",{"Call":[{"Fn":["core::all",{"types":[],"dicts":[{"Impl":["core::Range",[],[]]},{"Impl":["one::all+FnMut",[],[]]}]}]},[],{"local":0,"steps":[]}]},"Return"]}],["one::all+FnMut::call_mut",{"lifetimes":0,"body":["Seq",%s,"Return"]}]]' \
-  '{"Call":[{"Fn":["one",{"types":[],"dicts":[]}]},[],{"local":0,"steps":[]}]}' > "$work/noticed.mir"
-is 'a function that calls itself by way of a closure' 'one calls itself by way of one::all+FnMut::call_mut' "$(cycles "$work/noticed.mir")"
-printf '[["one",{"lifetimes":0,"body":["Seq",{"Call":[{"Fn":["core::all",{"types":[],"dicts":[{"Impl":["one::all+FnMut",[],[]]}]}]},[],{"local":0,"steps":[]}]},%s,"Return"]}],["one::all+FnMut::call_mut",{"lifetimes":0,"body":["Seq","Return"]}]]' \
-  '{"Call":[{"Method":[{"Given":0},0,{"types":[],"dicts":[]}]},[],{"local":0,"steps":[]}]}' > "$work/noticed.mir"
-is 'a closure that is handed on, and a call of what was given' '2 functions, 1 calls' "$(cycles "$work/noticed.mir")"
+noticed 'a call that hands on a function behind a type' 'one hands on to core::all what was given to it' \
+  '{"Call":[{"Fn":["core::all",{"types":[],"dicts":[{"Impl":["core::Range",[],[]]},{"Given":0}]}]},[],{"local":0,"steps":[]}]}'
+
+# made WHAT LINE NAME MIR ..: the same of several functions, whose names and code stand in turns
+made() {
+  local what=$1 line=$2 between='['
+  shift 2
+  while [ $# -gt 0 ]; do
+    printf '%s["%s",{"lifetimes":0,"body":["Seq",%s"Return"]}]' "$between" "$1" "${2:+$2,}"
+    between=,
+    shift 2
+  done > "$work/noticed.mir"
+  printf ']' >> "$work/noticed.mir"
+  is "$what" "$line" "$(cycles "$work/noticed.mir")"
+}
+# call NAME [BLOCK]: a call of the function, which hands on what the block has
+call() { printf '{"Call":[{"Fn":["%s",{"types":[],"dicts":[%s]}]},[],{"local":0,"steps":[]}]}' "$1" "${2:+{\"Impl\":[\"$2\",[],[]]\}}"; }
+# call_given [BLOCK]: a call of what was given
+call_given() { printf '{"Call":[{"Method":[{"Given":0},0,{"types":[],"dicts":[%s]}]},[],{"local":0,"steps":[]}]}' "${1:+{\"Impl\":[\"$1\",[],[]]\}}"; }
+made 'a function that calls itself by way of a closure' 'one calls itself by way of one::all+FnMut::call_mut' \
+  one '{"Call":[{"Fn":["core::all",{"types":[],"dicts":[{"Impl":["core::Range",[],[]]},{"Impl":["one::all+FnMut",[],[]]}]}]},[],{"local":0,"steps":[]}]}' \
+  one::all+FnMut::call_mut "$(call one)"
+made 'a closure that is handed on' '2 functions, 1 calls' one "$(call core::all one::all+FnMut)" one::all+FnMut::call_mut ''
+made 'a call of what was given that hands on a closure' "a call in one is not by a function's name" \
+  one "$(call_given one::all+FnMut)" one::all+FnMut::call_mut "$(call one)"
+made 'a closure that is handed on, and a call of what was given' "a call in one is not by a function's name" \
+  one "$(call core::all one::all+FnMut),$(call_given)" one::all+FnMut::call_mut ''
+# and where the function is one that may call what was given
+takers=one made 'a call of what was given' '3 functions, 3 calls' one "$(call_given)" two "$(call one two::one+Fn)" two::one+Fn::call ''
+takers=one made 'a call of what was given, where nothing is' "a call in one is not by a function's name" one "$(call_given)" two "$(call one)"
+takers=one made 'a call of what was given that hands on a closure too' "a call in one is not by a function's name" \
+  one "$(call_given one::all+FnMut)" one::all+FnMut::call_mut "$(call one)" two "$(call one two::one+Fn)" two::one+Fn::call ''
+takers=one made 'a function that calls itself by way of a closure of its caller' 'one calls itself by way of two::one+Fn::call' \
+  one "$(call_given)" two "$(call one two::one+Fn)" two::one+Fn::call "$(call one three::one+Fn)" three::one+Fn::call ''
 is 'no MIR' 'there is no function' "$(cycles /dev/null)"
 
 # c_seen WHAT LINE CODE: the same as seen, of code in C
