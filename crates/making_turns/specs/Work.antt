@@ -69,19 +69,19 @@ going None = 1
 going (Some a) = 0
 
 -- what is left to do: it falls with every turn
-unfoldable pub left : work_code.Work → ℕ
+unfoldable pub left : {H : Type 0} → work_code.Work H → ℕ
 left s = (4096 - s.count) * 100000 + (4096 - s.top) * 4 + (4096 - s.start) * 2 + cond s.walking 1 0 + going s.ended
 
 -- the waiting list once the row is stored that the turn before wanted to be
-abbrev pub stored : List Region → work_code.Work → List Region
+abbrev pub stored : {H : Type 0} → List Region → work_code.Work H → List Region
 stored ws s = set ws s.place s.row
 
 -- where the record of the step's edge begins
-abbrev pub Stands : List ℕ → work_code.Work → Type 0
+abbrev pub Stands : List ℕ → work_code.Work Head → Type 0
 Stands table s = (j : ℕ) → s.last.step ≡ suc j → s.last.here ≡ edge_start s.head.clocks.count s.head.locations table j
 
 -- work stands so, with these waiting rows: `before` is the buffer as it was lent, with so many waiting records
-pub record Standing (table before : List ℕ) (records : ℕ) (out : List ℕ) (ws : List Region) (s : work_code.Work) : Type 0 where
+pub record Standing (table before : List ℕ) (records : ℕ) (out : List ℕ) (ws : List Region) (s : work_code.Work Head) : Type 0 where
   pub describes : Describes table s.head
   pub grown : Grown (table_of table) s.head.clocks before out s.count s.start s.top s.last.step s.walking s.last.entered
   pub on : s.ended ≡ None
@@ -98,7 +98,7 @@ pub record Standing (table before : List ℕ) (records : ℕ) (out : List ℕ) (
   pub tied : Tied s.head.clocks.count out s.count ws
 
 -- work goes on with this state, which asks for a row to be stored first
-pub record Working (table before : List ℕ) (records : ℕ) (out : List ℕ) (ws : List Region) (s : work_code.Work) : Type 0 where
+pub record Working (table before : List ℕ) (records : ℕ) (out : List ℕ) (ws : List Region) (s : work_code.Work Head) : Type 0 where
   pub standing : Standing table before records out (stored ws s) s
   pub sized : length ws ≡ records
   pub place_in : s.place < records
@@ -111,24 +111,24 @@ pub record Ended (table before : List ℕ) (records : ℕ) (out : List ℕ) (a :
   pub buffer : out ≡ make_buffer table records before
 
 -- it goes on, or has ended
-pub record Loops (table before : List ℕ) (records : ℕ) (out : List ℕ) (ws : List Region) (s : work_code.Work) : Type 0 where
+pub record Loops (table before : List ℕ) (records : ℕ) (out : List ℕ) (ws : List Region) (s : work_code.Work Head) : Type 0 where
   pub goes : s.ended ≡ None → Working table before records out ws s
   pub ends : (a : Result ℕ Refusal) → s.ended ≡ Some a → Ended table before records out a
 
 -- it begins, or has ended at once
-abbrev pub Begins : List ℕ → List ℕ → ℕ → List ℕ → List Region → Result work_code.Work Refusal → Type 0
+abbrev pub Begins : List ℕ → List ℕ → ℕ → List ℕ → List Region → Result (work_code.Work Head) Refusal → Type 0
 Begins table before records out ws (Ok s) = Working table before records out ws s
 Begins table before records out ws (Err r) = Ended table before records out (Err r)
 
 -- the same before the buffer is cleared: what is refused is refused by the definitions
-abbrev pub BeginsRows : List ℕ → List ℕ → ℕ → List ℕ → List Region → Result work_code.Work Refusal → Type 0
+abbrev pub BeginsRows : List ℕ → List ℕ → ℕ → List ℕ → List Region → Result (work_code.Work Head) Refusal → Type 0
 BeginsRows table before records out ws (Ok s) = Working table before records out ws s
 BeginsRows table before records out ws (Err r) = (making table (length before) records ≡ bad (number_of r.fault) r.place) × (length out ≡ length before)
 
 -- one after the other ------------------------------------------------------------------------------------------------------------------
 
 -- work begins with the initial row, which is the first to be stored and to be taken
-abbrev pub starting : Head → Region → work_code.Work
+abbrev pub starting : {H : Type 0} → H → Region → work_code.Work H
 starting head x = record {
   ended = None;
   place = 0;
@@ -143,31 +143,31 @@ starting head x = record {
 }
 
 -- a look for a new row has come so far
-abbrev pub went : work_code.Work → stride_code.Stride → work_code.Work
+abbrev pub went : {H : Type 0} → work_code.Work H → stride_code.Stride → work_code.Work H
 went s q = record s { last = q }
 
 -- the next row is followed
-abbrev pub next_row : work_code.Work → work_code.Work
+abbrev pub next_row : {H : Type 0} → work_code.Work H → work_code.Work H
 next_row s = record s { take = s.top + 1; top = s.top + 1; last = record s.last { step = 0 } }
 
 -- the rows that were followed are walked, from the edge on whose record begins here
-abbrev pub to_walks : work_code.Work → ℕ → work_code.Work
+abbrev pub to_walks : {H : Type 0} → work_code.Work H → ℕ → work_code.Work H
 to_walks s first = record s { top = s.top + 1; walking = true; last = record s.last { step = 1; here = first } }
 
 -- those that were found since are followed
-abbrev pub to_rows : work_code.Work → work_code.Work
+abbrev pub to_rows : {H : Type 0} → work_code.Work H → work_code.Work H
 to_rows s = record s { take = s.top; start = s.top; walking = false; last = record s.last { step = 0 } }
 
 -- a row is added, which the next turn stores
-abbrev pub adding : work_code.Work → Region → work_code.Work
+abbrev pub adding : {H : Type 0} → work_code.Work H → Region → work_code.Work H
 adding s x = record s { place = s.count; row = x; count = s.count + 1 }
 
 -- work ends with a refusal
-abbrev pub refusing : work_code.Work → Refusal → work_code.Work
+abbrev pub refusing : {H : Type 0} → work_code.Work H → Refusal → work_code.Work H
 refusing s r = record s { ended = Some (Err r) }
 
 -- work ends with a list: the answer is the count, which is far below 65,536
-abbrev pub ending : work_code.Work → work_code.Work
+abbrev pub ending : {H : Type 0} → work_code.Work H → work_code.Work H
 ending s = record s { ended = Some (Ok (s.count % 65536)) }
 
 -- new rows ----------------------------------------------------------------------------------------------------------------------------

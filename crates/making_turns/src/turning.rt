@@ -18,6 +18,7 @@ use regions::region::Region;
 use rows::row::{initial_row, row_width};
 use table_records::refusal::{Fault, Refusal};
 use tables::admission::open;
+use tables::reading::first_edge;
 use tables::table::Table;
 
 // Whether there is room for a row more than so many.
@@ -82,7 +83,7 @@ fn follow_next(s: Work) -> Work
     if s.top + 1 < s.count {
         return s.next_row();
     }
-    s.to_walks()
+    s.to_walks(first_edge(s.head.clocks.count, s.head.locations))
 }
 
 // Ends where all rows have been followed: with the list, or with 21.

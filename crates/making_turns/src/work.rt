@@ -7,19 +7,19 @@ use regions::region::Region;
 use table_records::head::Head;
 use table_records::refusal::Refusal;
 use tables::answer::Answer;
-use tables::reading::first_edge;
 
 // The next turn stores `row` at `place` of the waiting list and takes the row at `take`. `count` rows are kept; the first `top` of them, in the order in
 // which they were found, have been followed by plain steps, the first `start` by all; `walking` tells which of the two is being done. It goes on from the
 // `last` stride: with its step, where 0 is waiting, and above it the edges, of which this one's record begins at `here`; a walk goes on from the row that was
-// walked `from`, past the new row that was found there. `ended` is the answer, once there is one.
+// walked `from`, past the new row that was found there. `ended` is the answer, once there is one. The steps hand `head` on and never look into it, so they
+// ask nothing of what stands there: a table's head, where nothing else is said.
 #[derive(Clone, Copy)]
-pub struct Work {
+pub struct Work<H = Head> {
     pub ended: Option<Answer>,
     pub place: usize,
     pub row: Region,
     pub take: usize,
-    pub head: Head,
+    pub head: H,
     pub count: usize,
     pub start: usize,
     pub top: usize,
@@ -28,7 +28,7 @@ pub struct Work {
 }
 
 // Work that begins with the initial row.
-pub fn starting(head: Head, first: Region) -> Work
+pub fn starting<H>(head: H, first: Region) -> Work<H>
     ensures { result ≡ starting head first }
 {
     Work {
@@ -51,16 +51,16 @@ pub fn starting(head: Head, first: Region) -> Work
     }
 }
 
-impl Work {
+impl<H: Copy> Work<H> {
     // A look for a new row has come so far.
-    pub fn went(self, q: Stride) -> Work
+    pub fn went(self, q: Stride) -> Work<H>
         ensures { result ≡ went self q }
     {
         Work { last: q, ..self }
     }
 
     // The next row is followed.
-    pub fn next_row(self) -> Work
+    pub fn next_row(self) -> Work<H>
         requires { self.top < 4096 }
         ensures { result ≡ next_row self }
     {
@@ -75,17 +75,17 @@ impl Work {
         }
     }
 
-    // The rows that were followed are walked, from the first edge on.
-    pub fn to_walks(self) -> Work
+    // The rows that were followed are walked, from the edge on whose record begins here.
+    pub fn to_walks(self, here: usize) -> Work<H>
         requires { self.top < 4096 }
-        ensures { result ≡ to_walks self (7 + self.head.clocks.count + 3 * self.head.locations) }
+        ensures { result ≡ to_walks self here }
     {
         Work {
             top: self.top + 1,
             walking: true,
             last: Stride {
                 step: 1,
-                here: first_edge(self.head.clocks.count, self.head.locations),
+                here,
                 ..self.last
             },
             ..self
@@ -93,7 +93,7 @@ impl Work {
     }
 
     // The rows that were found since are followed.
-    pub fn to_rows(self) -> Work
+    pub fn to_rows(self) -> Work<H>
         ensures { result ≡ to_rows self }
     {
         Work {
@@ -109,7 +109,7 @@ impl Work {
     }
 
     // A row is added, which the next turn stores.
-    pub fn adding(self, row: Region) -> Work
+    pub fn adding(self, row: Region) -> Work<H>
         requires { self.count < 4096 }
         ensures { result ≡ adding self row }
     {
@@ -122,7 +122,7 @@ impl Work {
     }
 
     // It ends with a list.
-    pub fn ending(self) -> Work
+    pub fn ending(self) -> Work<H>
         ensures { result ≡ ending self }
     {
         Work {
@@ -132,7 +132,7 @@ impl Work {
     }
 
     // It ends with a refusal.
-    pub fn refusing(self, refusal: Refusal) -> Work
+    pub fn refusing(self, refusal: Refusal) -> Work<H>
         ensures { result ≡ refusing self refusal }
     {
         Work {

@@ -44,7 +44,7 @@ use Rattle.calls.proofs.Laws.Making.{Fits, list_bytes_length, make_short, make_o
 -- what is refused before work begins --------------------------------------------------------------------------------------------------------
 
 -- the buffer is cleared then
-pub begins_cleared : (table before : List ℕ) (records : ℕ) (lent out : List ℕ) (ws : List Region) (o : Result work_code.Work Refusal) → is_err o ≡ true
+pub begins_cleared : (table before : List ℕ) (records : ℕ) (lent out : List ℕ) (ws : List Region) (o : Result (work_code.Work Head) Refusal) → is_err o ≡ true
     → BeginsRows table before records lent ws o → out ≡ replicate (length lent) 0 → Begins table before records out ws o
 begins_cleared table before records lent out ws (Ok s) f b cleared = never f
 begins_cleared table before records lent out ws (Err r) f (e, same) cleared = refused_ends r lent e same cleared

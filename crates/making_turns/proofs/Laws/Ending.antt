@@ -28,6 +28,7 @@ use Rattle.calls.specs.Making.{making}
 use Rattle.listed_rows.specs.Listed.{listed_rows}
 use Rattle.listed_rows.proofs.Laws.Listed.{listed_length}
 use Rattle.making_turns.specs.declared.work.Work as work_code
+use Rattle.table_records.specs.declared.head.Head.{Head}
 use Rattle.making_turns.specs.Work.{Standing, Ended, Loops, refusing, Comes}
 use Rattle.automata.proofs.Laws.Insert.{insert_ascends, insert_out, insert_length}
 use Rattle.automata.proofs.Laws.Kept.{kept_row}
@@ -37,7 +38,7 @@ use Rattle.making_turns.proofs.Laws.Adding.{comes_kept}
 use Rattle.making_turns.proofs.Laws.Standing.{edges_are}
 use Rattle.making_turns.proofs.Laws.Turning.{is_admitted}
 
-module _ {table before : List ℕ} {records : ℕ} {out : List ℕ} {ws : List Region} {s : work_code.Work} (S : Standing table before records out ws s) where
+module _ {table before : List ℕ} {records : ℕ} {out : List ℕ} {ws : List Region} {s : work_code.Work Head} (S : Standing table before records out ws s) where
   abbrev T : Table
   T = table_of table
 
@@ -151,13 +152,13 @@ module _ {table before : List ℕ} {records : ℕ} {out : List ℕ} where
       record { answer = sym a; buffer = cleared ∙ ap (λ (k : ℕ). replicate k 0) same ∙ sym b }
 
   -- with an answer
-  pub ended_loops : {ws : List Region} (a : Result ℕ Refusal) {q : work_code.Work} → q.ended ≡ Some a → Ended table before records out a → Loops table before records out ws q
+  pub ended_loops : {ws : List Region} (a : Result ℕ Refusal) {q : work_code.Work Head} → q.ended ≡ Some a → Ended table before records out a → Loops table before records out ws q
   ended_loops a e E = record {
     goes = λ g. absurd (none-some a (sym g ∙ e));
     ends = λ a' g. rw (same_Some a a' (sym e ∙ g)) at E;
   }
 
   -- with a refusal
-  pub refused_loops : {ws : List Region} (s : work_code.Work) {q : work_code.Work} {r : Refusal} (lent : List ℕ) → q ≡ refusing s r → making table (length before) records ≡ bad (number_of r.fault) r.place
+  pub refused_loops : {ws : List Region} (s : work_code.Work Head) {q : work_code.Work Head} {r : Refusal} (lent : List ℕ) → q ≡ refusing s r → making table (length before) records ≡ bad (number_of r.fault) r.place
       → length lent ≡ length before → out ≡ replicate (length lent) 0 → Loops table before records out ws q
-  refused_loops s {r = r} lent e m same cleared = ended_loops (Err r) (ap (λ (w : work_code.Work). w.ended) e) (refused_ends r lent m same cleared)
+  refused_loops s {r = r} lent e m same cleared = ended_loops (Err r) (ap (λ (w : work_code.Work Head). w.ended) e) (refused_ends r lent m same cleared)

@@ -22,12 +22,13 @@ use Rattle.listed_rows.specs.Listed.{listed_row, listed_rows}
 use Rattle.kept_rows.specs.Births.{birth}
 use Rattle.next_steps.specs.declared.stride.Stride as stride_code
 use Rattle.making_turns.specs.declared.work.Work as work_code
+use Rattle.table_records.specs.declared.head.Head.{Head}
 use Rattle.next_steps.specs.Steps.{due, plain, Follows, Walks}
 use Rattle.making_turns.specs.Work.{blank, Grown, stored, Standing, Working, Loops, went, next_row, to_walks, to_rows, Comes}
 use Rattle.next_steps.proofs.Laws.Steps.{settled_walked}
 use Rattle.making_turns.proofs.Laws.Growing.{top_listed, grown_followed, grown_next, grown_walks, grown_walked, grown_on}
 
-module _ {table before : List ℕ} {records : ℕ} {out : List ℕ} {ws : List Region} {s : work_code.Work} (S : Standing table before records out ws s) where
+module _ {table before : List ℕ} {records : ℕ} {out : List ℕ} {ws : List Region} {s : work_code.Work Head} (S : Standing table before records out ws s) where
   abbrev n : ℕ
   n = s.head.clocks.count
 

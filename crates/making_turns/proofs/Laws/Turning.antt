@@ -24,10 +24,11 @@ use Rattle.kept_rows.specs.Inserted.{Inserted}
 use Rattle.kept_rows.proofs.Laws.Inserted.{inserted_mem}
 use Rattle.next_steps.specs.declared.stride.Stride as stride_code
 use Rattle.making_turns.specs.declared.work.Work as work_code
+use Rattle.table_records.specs.declared.head.Head.{Head}
 use Rattle.making_turns.specs.Work.{blank, Grown, Tied, left, Standing, Loops, went, next_row, to_walks, to_rows, adding, refusing, ending, Comes}
 use Rattle.making_turns.proofs.Laws.Adding.{comes_row, grown_added, tied_added}
 
-module _ {table before : List ℕ} {records : ℕ} {out : List ℕ} {ws : List Region} {s : work_code.Work} (S : Standing table before records out ws s) where
+module _ {table before : List ℕ} {records : ℕ} {out : List ℕ} {ws : List Region} {s : work_code.Work Head} (S : Standing table before records out ws s) where
   abbrev n : ℕ
   n = s.head.clocks.count
 
@@ -94,7 +95,7 @@ module _ {table before : List ℕ} {records : ℕ} {out : List ℕ} {ws : List R
 
 -- each turn leaves less to do -----------------------------------------------------------------------------------------------------------------
 
-module _ (s : work_code.Work) where
+module _ {H : Type 0} (s : work_code.Work H) where
   pub went_left : (q : stride_code.Stride) → left (went s q) ≡ left s
   unfolding left
   went_left q = refl

@@ -1,6 +1,7 @@
 use Rattle.making_turns.proofs.Laws.Ending.{final_entered, list_ends, refused_loops, ended_loops}
 use Rattle.making_turns.proofs.Laws.Turning.{refusing_left, ending_left}
 use Rattle.making_turns.specs.declared.work.Work as work_code
+use Rattle.table_records.specs.declared.head.Head.{Head}
 use mathlib.Core.Path.{ap}
 use Rattle.making_turns.proofs.turning.conclude.Goals as goal
 
@@ -15,7 +16,7 @@ returns-then-s-clause-falls c =
 
 pub returns-clause-loops : goal.returns-clause-loops
 returns-clause-loops c =
-    λ table before records ws S. ended_loops _ (ap (λ (w : work_code.Work). w.ended) c.ending.ensures) (list_ends S c.requires.walking_value.0 c.requires.walking_value.1 c.requires.walking_value.2 c.if-s.false _ c.finish.ensures)
+    λ table before records ws S. ended_loops _ (ap (λ (w : work_code.Work Head). w.ended) c.ending.ensures) (list_ends S c.requires.walking_value.0 c.requires.walking_value.1 c.requires.walking_value.2 c.if-s.false _ c.finish.ensures)
 
 pub returns-clause-falls : goal.returns-clause-falls
 returns-clause-falls c =

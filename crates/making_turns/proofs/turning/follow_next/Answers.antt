@@ -1,6 +1,7 @@
 use Rattle.making_turns.proofs.Laws.Standing.{goes_on, next_stands, walks_stand}
 use Rattle.making_turns.proofs.Laws.Turning.{next_left, walks_left}
 use Rattle.table_records.proofs.Laws.Skips.{skip_none}
+use mathlib.Core.Path.{◌∙◌}
 use native.Mathlib.Omega.{arith}
 use Rattle.making_turns.proofs.turning.follow_next.Goals as goal
 
@@ -15,7 +16,7 @@ returns-then-s-clause-falls c =
 
 pub returns-clause-loops : goal.returns-clause-loops
 returns-clause-loops c =
-    λ table before records out ws S. rw c.to_walks.ensures (goes_on (walks_stand S c.requires.walking_value.0 c.requires.walking_value.1 c.if-s.false _ (skip_none _ _)))
+    λ table before records out ws S. rw c.to_walks.ensures (goes_on (walks_stand S c.requires.walking_value.0 c.requires.walking_value.1 c.if-s.false _ (c.first_edge.ensures ∙ skip_none _ _)))
 
 pub returns-clause-falls : goal.returns-clause-falls
 returns-clause-falls c =
