@@ -1,9 +1,10 @@
 # The functions that call themselves, directly or by way of others, from the MIR of crates, as rt leaves it with each library that it has built:
-#   sed -E 's/\{"Call":\[?|\{"Fn":|\["[^"]*",\{"lifetimes":[0-9]/\n&/g' crates/*/out/rlib/*.rlib/toolchain/mir.json | awk -v takers='F ..' -f cycles.awk -f recursion.awk
+#   sed -E 's/\{"Call":\[?|\{"Fn":|\["[^"]*",\{"lifetimes":[0-9]/\n&/g' crates/*/out/rlib/*.rlib/toolchain/mir.json | awk -v takers='F ..' -v derived='F ..' -f cycles.awk -f recursion.awk
 # MIR has every function of its crate, with each call as it is written: nothing is inlined, and a call at the end of a function is not a jump yet. So
 # this sees what compiled code may hide. A call that hands on how a type does something, as a closure is called, counts as calls of all that the type's
 # block has: whoever is given it may call that, and no one else can. The functions that `takers` names may call what was given to them, and that counts
-# as calls of all that is handed to them anywhere. The functions of the kit are not in this MIR: none of them knows one of these crates but by what is
+# as calls of all that is handed to them anywhere. Those that `derived` names, which a derive wrote for a type with a parameter, call how that type does
+# something; so no function may call them, nor hand on what has them. The functions of the kit are not in this MIR: none of them knows one of these crates but by what is
 # handed on, and what they call of each other is seen in the compiled code.
 # It prints a line for each cycle, and one for what it cannot tell: a call of anything else but a named function, of what was given by any other
 # function, or where nothing is handed to it, or in a way that hands on more; a name that stands in no call; a call that hands on what was given itself;
@@ -23,6 +24,8 @@ function quoted(   word) {
 BEGIN {
   split(takers, words, " ")
   for (i in words) takes[words[i]]
+  split(derived, words, " ")
+  for (i in words) uncalled[words[i]]
 }
 
 /^\["[^"]*",\{"lifetimes":[0-9]/ {
@@ -60,7 +63,7 @@ function calls_all(of, block,   i) {
 # the function that is called stands on a line of its own, right after the one that begins the call; or what was given is called, and nothing handed on
 /^\{"Call":/ && $0 != "{\"Call\":[" {
   if (name in takes && $0 ~ /^\{"Call":\[\{"Method":\[\{"Given":[0-9]+\},[0-9]+,\{"types":\[\],"dicts":\[\]\}\]\},/) calls_given[name]
-  else nameless(name)
+  else if (!(name in uncalled)) nameless(name)
 }
 
 /^\{"Fn":/ {
@@ -83,7 +86,10 @@ END {
   }
   for (i = 1; i <= functions; i++) {
     of = function_named[i]
-    for (j = 1; j <= callees[of]; j++) if (!(callee[of, j] in callees)) wrong(of " calls " callee[of, j] ", which is not there")
+    for (j = 1; j <= callees[of]; j++) {
+      if (!(callee[of, j] in callees)) wrong(of " calls " callee[of, j] ", which is not there")
+      if (callee[of, j] in uncalled) wrong(of " calls " callee[of, j] ", which a derive wrote")
+    }
     count += callees[of]
   }
   if (functions == 0) wrong("there is no function")

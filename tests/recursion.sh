@@ -23,10 +23,12 @@ is() { if [ "$2" = "$3" ]; then ok; else bad "$1: '$3', expected '$2'"; fi; }
 # The functions of the library that may call what was given to them. There is one: `pattern_where` asks the test that it is given of each clock, for the
 # two numbers of a choice that differ in this test alone. Its calls count as calls of each test that is handed to it, so that no call is left untold.
 takers=rankings::ranking::pattern_where
+# What a derive wrote for a type with a parameter, and no function calls: `Work` is copied, and a copy is no call.
+derived=making_turns::work::WorkClone::clone
 
 # cycles FILE..: what recursion.awk says of files of MIR
 cycles() {
-  sed -E 's/\{"Call":\[?|\{"Fn":|\["[^"]*",\{"lifetimes":[0-9]/\n&/g' "$@" | awk -v takers="$takers" -f "$here/tests/cycles.awk" -f "$here/tests/recursion.awk"
+  sed -E 's/\{"Call":\[?|\{"Fn":|\["[^"]*",\{"lifetimes":[0-9]/\n&/g' "$@" | awk -v takers="$takers" -v derived="$derived" -f "$here/tests/cycles.awk" -f "$here/tests/recursion.awk"
 }
 
 # code_cycles PROGRAM: the same of a program
@@ -304,6 +306,12 @@ takers=one made 'a call of what was given that hands on a closure too' "a call i
   one "$(call_given one::all+FnMut)" one::all+FnMut::call_mut "$(call one)" two "$(call one two::one+Fn)" two::one+Fn::call ''
 takers=one made 'a function that calls itself by way of a closure of its caller' 'one calls itself by way of two::one+Fn::call' \
   one "$(call_given)" two "$(call one two::one+Fn)" two::one+Fn::call "$(call one three::one+Fn)" three::one+Fn::call ''
+# and where a derive wrote the function: nothing calls it, or hands it on
+derived=one::TypeClone::clone made 'a derived function that calls how a type does something' '2 functions, 0 calls' one '' one::TypeClone::clone "$(call_given)"
+derived=one::TypeClone::clone made 'a call of a derived function' 'one calls one::TypeClone::clone, which a derive wrote' \
+  one "$(call one::TypeClone::clone)" one::TypeClone::clone "$(call_given)"
+derived=one::TypeClone::clone made 'a derived function that is handed on' 'one calls one::TypeClone::clone, which a derive wrote' \
+  one "$(call core::all one::TypeClone)" one::TypeClone::clone "$(call_given)"
 is 'no MIR' 'there is no function' "$(cycles /dev/null)"
 
 # c_seen WHAT LINE CODE: the same as seen, of code in C
@@ -331,10 +339,10 @@ code_seen 'a call through a pointer in a program' "a call in main is not by a fu
 # ---- the crates of crates.txt. Their functions must be in the MIR, or in rt's modules, each with its name, or a call could go unseen.
 in_source() { sed 's|//.*||' "crates/$1"/src/*.rt | grep -oE '(^|[^a-zA-Z0-9_])fn +[a-zA-Z0-9_]+' | sed 's/.* //' | sort; }
 # What stands in the MIR and in no source: a closure with what calls it, whose names are below its function's; what ends a value; a variant that is
-# handed to the kit as a function; a derived `default` or `eq`.
+# handed to the kit as a function; a derived `default` or `eq`, or `clone` of a type with a parameter.
 in_mir() {
   grep -oE "\\[\"$1::[^\"]*\",\\{\"lifetimes\":[0-9]" "$work/crates/$1.mir" | sed -E 's/^\["([^"]*)".*/\1/' |
-    grep -vE '::fn::|\+none::drop$|\+[A-Z][A-Za-z]*\+FnOnce::call_once$|(Default::default|PartialEq::eq)$' | sed 's/.*://' | sort
+    grep -vE '::fn::|\+none::drop$|\+[A-Z][A-Za-z]*\+FnOnce::call_once$|(Default::default|PartialEq::eq|Clone::clone)$' | sed 's/.*://' | sort
 }
 # Whether a crate is a part of the library. The others are the programs, and what opens files for them, and the two archives.
 is_inside() { [ ! -f "crates/$1/src/main.rt" ] && [ "$1" != files ] && ! grep -qE "^$1 +staticlib" crates.txt; }
