@@ -1,15 +1,16 @@
 -- The bound rules on an edge by value, and edge by edge. Assumes nothing.
 use Prim.Native.Nat.{ℕ, suc, ◌+◌, ◌-◌, ◌≤◌, ◌<◌}
 use native.Mathlib.Omega.{arith}
-use mathlib.Core.Path.{◌≡◌, refl, sym, ap, ◌∙◌}
+use mathlib.Core.Path.{◌≡◌, refl, sym, ap, subst, ◌∙◌}
 use mathlib.Core.Bool.{Bool, true, false, cond, ◌&&◌}
 use mathlib.Core.List.{List, [], ◌∷◌}
 use lib.ListN.{length, take, get_or, get_or-map}
-use lib.Seq.{get_or-take}
+use lib.Seq.{length-take-le, get_or-take}
 use Rattle.automata.specs.Clocks.{allb}
 use Rattle.automata.specs.Edge.{Action, Edge, idle}
 use Rattle.automata.specs.Checks.{every}
-use Rattle.regions.specs.Values.{action_of, update_of, edge_of}
+use Rattle.regions.specs.Values.{bounds_of, action_of, update_of, edge_of}
+use Rattle.regions.specs.declared.clocks.Clocks as clocks_code
 use Rattle.regions.specs.declared.edge.Action as action_code
 use Rattle.regions.specs.declared.edge.Update as update_code
 use Rattle.regions.specs.declared.edge.Edge as edge_code
@@ -34,13 +35,20 @@ all_every test (x ∷ xs) = ap (λ b. test x && b) (all_every test xs)
 abbrev pub no_update : update_code.Update
 no_update = record { action = action_code.TheVariants.Keep; comparison = 0 }
 
--- the updates, clock by clock
-pub updates_each : (c : List ℕ) (e : edge_code.Edge) (test : List ℕ → ℕ → Action → Bool)
+-- the updates, one by one, of any bounds
+pub updates_along : (c : List ℕ) (e : edge_code.Edge) (test : List ℕ → ℕ → Action → Bool)
     → allb (length c) (λ (z : ℕ). test c z (action_of (get_or e.updates z no_update).action)) ≡ each_update test c (edge_of (length c) e)
-updates_each c e test =
+updates_along c e test =
     allb_same (length c) _ _
     (λ z l. ap (λ (u : Rattle.automata.specs.Edge.Update). test c z u.action)
     (sym (get_or-map update_of (take (length c) e.updates) z no_update ∙ ap update_of (get_or-take (length c) e.updates z no_update l))))
+
+-- .. of the bounds of clocks, clock by clock
+pub updates_each : (k : clocks_code.Clocks) (e : edge_code.Edge) (test : List ℕ → ℕ → Action → Bool) → k.count ≤ length k.bounds
+    → allb k.count (λ (z : ℕ). test (bounds_of k) z (action_of (get_or e.updates z no_update).action)) ≡ each_update test (bounds_of k) (edge_of k.count e)
+updates_each k e test h =
+    subst (λ (n : ℕ). allb n (λ (z : ℕ). test (bounds_of k) z (action_of (get_or e.updates z no_update).action)) ≡ each_update test (bounds_of k) (edge_of n e))
+    (length-take-le k.count k.bounds h) (updates_along (bounds_of k) e test)
 
 -- the rule that an edge breaks -----------------------------------------------------------------------------------------------
 
